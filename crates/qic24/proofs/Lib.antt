@@ -1,0 +1,13 @@
+pub mod Tables
+pub mod Binary
+pub mod Register
+pub mod Overlay
+pub mod Groups
+pub mod Judging
+pub mod Openings
+pub mod Entries
+pub mod Body
+pub mod Exactly
+pub mod Only
+pub mod Runs
+pub mod Promises
