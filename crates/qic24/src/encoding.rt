@@ -217,6 +217,7 @@ fn put_body(out: &mut [u8], at: usize, track: u8, item: &Item) -> usize
 pub fn encode(preamble: Preamble, track: u8, item: &Item, out: &mut [u8; LONGEST]) -> usize
     ensures size { λ r. ⌜ r ≡ length (copy (preamble-ones preamble) track (held (now (item .entry)))) ⌝ }
     ensures buffer { λ r. ⌜ now (out .exit) ≡ copy (preamble-ones preamble) track (held (now (item .entry))) ++ drop r (now (out .entry)) ⌝ }
+    ensures bound { λ r. ⌜ r ≤ 20195 ⌝ }
     ensures distinct { λ _. ⌜ Same-cells-same-item ⌝ }
     ensures kinds { λ _. ⌜ Mark-is-no-block ⌝ }
 {
@@ -224,4 +225,13 @@ pub fn encode(preamble: Preamble, track: u8, item: &Item, out: &mut [u8; LONGEST
     let data = put(out, marker, &MARKER);
     let postamble = put_body(out, data, track, item);
     put_ones(out, postamble, POSTAMBLE)
+}
+
+// The ten cells that a byte is recorded as.
+pub fn code_byte(byte: u8) -> [u8; 10]
+    ensures { λ r. ⌜ r ≡ byte-cells byte ⌝ }
+{
+    let mut cells = [0; 10];
+    let _ = put_byte(&mut cells, 0, byte);
+    cells
 }

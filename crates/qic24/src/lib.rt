@@ -13,6 +13,7 @@ pub use crc16::crc;
 pub use decoding::BODY;
 pub use decoding::decode;
 pub use encoding::LONGEST;
+pub use encoding::code_byte;
 pub use encoding::encode;
 pub use fault::CopyFault;
 pub use fault::CopyFaultDebug;

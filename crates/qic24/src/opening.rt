@@ -1,6 +1,8 @@
 // Finding where copies begin.
 ghost use mathlib.Core.List.{map};
-ghost use Prim.Native.Nat.{ℕ};
+ghost use Prim.Native.Nat.{ℕ, _≤_};
+ghost use lib.ListN.{length};
+ghost use Rattle.std.specs.Options.{Cases};
 ghost use Rattle.qic24.specs.Cells.{cell};
 ghost use Rattle.qic24.specs.Laws.{No-nine-ones, No-opening-inside};
 ghost use Rattle.qic24.specs.Opening.{First-opening};
@@ -15,6 +17,7 @@ const PATTERN: u16 = 0b11_1111_1110_0111;
 // The first place, from a place on, that an opening ends right before.
 pub fn find_opening(cells: &[u8], from: usize) -> Option<usize>
     ensures first { λ r. ⌜ First-opening (map cell (now (cells .entry))) from r ⌝ }
+    ensures within { λ r. ⌜ Cases r (Unit {0}) (λ p. (from ≤ p) × (p ≤ length (now (cells .entry)))) ⌝ }
     ensures runs { λ _. ⌜ No-nine-ones ⌝ }
     ensures inside { λ _. ⌜ No-opening-inside ⌝ }
 {

@@ -22,7 +22,7 @@ impl Item {
     pub fn number(&self) -> u32
         ensures { λ r. ⌜ r ≡ now (self .entry) .number ⌝ }
     {
-        self.number
+        self.number // never 0, by the type
     }
 
     pub fn content(&self) -> &Content

@@ -38,4 +38,4 @@ returns c =
     let l3 : length (((ones p ++ marker) ++ b) ++ ones 5) ≡ p + 5195 = length-append ((ones p ++ marker) ++ b) (ones 5) ∙ omega (arith, length-ones 5) in
     let n : c .put-ones .result ≡ length (((ones p ++ marker) ++ b) ++ ones 5) = omega arith in
     let n2 = n ∙ ap (λ (z : List ℕ). length z) e in
-    record { distinct = same-cells-same-item; kinds = mark-is-no-block; size = n2; buffer = b3 ∙ ap (overlaid o 0) e ∙ ap (λ (z : List ℕ). (ones p ++ (marker ++ (b ++ ones 5))) ++ z) (ap (λ k. drop k o) (zero-add (length (ones p ++ (marker ++ (b ++ ones 5)))) ∙ sym n2)) }
+    record { distinct = same-cells-same-item; kinds = mark-is-no-block; bound = omega arith; size = n2; buffer = b3 ∙ ap (overlaid o 0) e ∙ ap (λ (z : List ℕ). (ones p ++ (marker ++ (b ++ ones 5))) ++ z) (ap (λ k. drop k o) (zero-add (length (ones p ++ (marker ++ (b ++ ones 5)))) ∙ sym n2)) }

@@ -33,7 +33,7 @@ returns-then-seen-eq-PATTERN c =
     let n = next bs s i (c .loop-place .seen) (c .cell-of .result) (c .loop-place .kept .place) (c .loop-place-test .taken) (c .loop-place .inv .0) (c .cell-of .ensures) in
     let o = shows (map cell bs) (cells-binary bs) s (i + 1) (omega arith) (omega arith) (sym n ∙ c .if-seen-eq-PATTERN .taken) in
     let k = o .0 in
-    record { first = (omega arith, o .1, c .loop-place .inv .1); runs = no-nine-ones; inside = no-opening-inside }
+    record { first = (omega arith, o .1, c .loop-place .inv .1); within = (omega arith, omega arith); runs = no-nine-ones; inside = no-opening-inside }
 
 pub loop-place-again : need.loop-place-again
 loop-place-again c =
@@ -52,4 +52,4 @@ loop-place-again c =
     )
 
 pub returns : need.returns
-returns c = record { runs = no-nine-ones; inside = no-opening-inside; first = λ q f o. let w = opens-within (map cell (c .args .cells .now)) q o in let l = length-map (c .args .cells .now) cell in c .loop-place .inv .1 q f (omega arith) o }
+returns c = record { within = tt; runs = no-nine-ones; inside = no-opening-inside; first = λ q f o. let w = opens-within (map cell (c .args .cells .now)) q o in let l = length-map (c .args .cells .now) cell in c .loop-place .inv .1 q f (omega arith) o }
