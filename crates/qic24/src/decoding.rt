@@ -117,7 +117,7 @@ fn number(bytes: &[u8; 518]) -> u32
     ensures value { λ r. ⌜ r ≡ number-in (now (bytes .entry)) ⌝ }
     ensures small { λ r. ⌜ r ≤ 1048575 ⌝ }
 {
-    u32::from(bytes[513] & 0x0F) * 0x10000 + u32::from(bytes[514]) * 0x100 + u32::from(bytes[515])
+    u32::from(bytes[513] % 16) * 0x1_0000 + u32::from(bytes[514]) * 0x100 + u32::from(bytes[515])
 }
 
 // The CRC that was recorded.
@@ -148,7 +148,7 @@ fn judge(track: u8, groups: &Groups) -> Result<Item, CopyFault>
     if bytes[512] != track {
         return Err(CopyFault::OtherTrack(bytes[512]));
     }
-    let control = bytes[513] >> 4;
+    let control = bytes[513] / 16;
     if control != 0 {
         return Err(CopyFault::Control(control));
     }

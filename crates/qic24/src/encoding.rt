@@ -198,7 +198,7 @@ fn check_bytes(track: u8, item: &Item) -> [u8; 2]
     ensures { λ r. ⌜ r ≡ two-bytes (item-crc track (held (now (item .entry)))) ⌝ }
 {
     let check = crc16::item_crc(track, item);
-    [(check >> 8) as u8, (check & 0xFF) as u8]
+    [(check / 0x100) as u8, (check % 0x100) as u8]
 }
 
 // The 5,180 cells of an item on a track: data, address and CRC.

@@ -38,9 +38,9 @@ impl Item {
         let number = self.number;
         [
             track,
-            (number >> 16) as u8,
-            ((number >> 8) & 0xFF) as u8,
-            (number & 0xFF) as u8,
+            (number / 0x1_0000) as u8,
+            (number / 0x100 % 0x100) as u8,
+            (number % 0x100) as u8,
         ]
     }
 }

@@ -1,0 +1,126 @@
+#!/usr/bin/env python3
+"""The format against other software, on random records.
+
+    tests/outside.py CODEC BASELINE [SEED [COUNT]]
+
+CODEC is the program of crates/codec, BASELINE that of bench/ (bin codec). Each reads the same records; the CRC lines are
+also held to binascii.crc_hqx(data, 0xffff), and copies that are not damaged to an encoder written here.
+`--records SEED COUNT` prints the records alone.
+"""
+import binascii
+import random
+import subprocess
+import sys
+
+NIBBLES = "11001 11011 10010 10011 11101 10101 10110 10111 11010 01001 01010 01011 11110 01101 01110 01111".split()
+CELLS = [bytes(int(c) for c in NIBBLES[b >> 4] + NIBBLES[b & 15]) for b in range(256)]
+MARK = bytes(int(c) for c in "0010100101")
+
+
+def body(track, number, block):
+    """The 5,180 cells of an item; block is None for a mark."""
+    data = b"\xff" * 512 if block is None else block
+    address = bytes([track]) + number.to_bytes(3, "big")
+    check = binascii.crc_hqx(data + address, 0xFFFF).to_bytes(2, "big")
+    head = MARK * 512 if block is None else b"".join(CELLS[b] for b in block)
+    return head + b"".join(CELLS[b] for b in address + check)
+
+
+def blocks(rng):
+    return rng.choice([
+        lambda: rng.randbytes(512),
+        lambda: bytes([rng.randrange(256)]) * 512,
+        lambda: bytes(rng.choice((0x00, 0xFF, 0x3C, 0xFC)) for _ in range(512)),
+        lambda: bytes(i & 0xFF for i in range(rng.randrange(256), rng.randrange(256) + 512))[:512].ljust(512, b"\0"),
+    ])()
+
+
+def number(rng):
+    return rng.choice((1, 2, 70_000, 1_048_575, rng.randrange(1, 1_048_576)))
+
+
+def sized(data):
+    return len(data).to_bytes(2, "big") + data
+
+
+def damaged(rng, cells, track):
+    """Cells that are spoiled in one of several ways."""
+    cells = bytearray(cells)
+    way = rng.randrange(8)
+    if way == 0:
+        cells = cells[: rng.randrange(5_180)]
+    elif way == 1:
+        for _ in range(rng.randrange(1, 4)):
+            at = rng.randrange(5_180)
+            cells[at] ^= 1
+    elif way == 2:
+        group = rng.randrange(518)
+        cells[10 * group : 10 * group + 10] = MARK
+    elif way == 3:
+        group = rng.randrange(518)
+        cells[10 * group : 10 * group + 10] = CELLS[rng.randrange(256)]
+    elif way == 4:
+        at = rng.randrange(5_180)
+        size = rng.randrange(1, 400)
+        cells[at : at + size] = bytes(len(cells[at : at + size]))
+    elif way == 5:
+        address = bytes([track, rng.randrange(256), rng.randrange(256), rng.randrange(256)])
+        data = bytes(512)
+        check = binascii.crc_hqx(data + address, 0xFFFF).to_bytes(2, "big")
+        cells = bytearray(b"".join(CELLS[b] for b in data + address + check))
+    elif way == 6:
+        cells = bytearray(body(track, 0, None))
+    else:
+        cells = bytearray(rng.randrange(3) for _ in range(5_180))
+    return bytes(cells)
+
+
+def records(seed, count):
+    """A list of (record, expected line or None)."""
+    rng = random.Random(seed)
+    out = []
+    for i in range(count):
+        data = rng.choice((blocks(rng), rng.randbytes(rng.randrange(600)), bytes(rng.randrange(20))))
+        out.append((b"C" + sized(data), "crc %04X" % binascii.crc_hqx(data, 0xFFFF)))
+        if i % 10 == 0:
+            track, n = rng.randrange(256), rng.choice((number(rng), number(rng), 0, 1_048_576))
+            block = rng.choice((None, blocks(rng)))
+            held = b"\x01" if block is None else b"\x00" + block
+            out.append((b"E" + bytes([rng.randrange(3), track]) + n.to_bytes(4, "big") + held, None))
+        if i % 10 == 5:
+            track, n, block = rng.randrange(256), number(rng), rng.choice((None, blocks(rng)))
+            cells = body(track, n, block)
+            if block is None:
+                out.append((b"D" + bytes([track]) + sized(cells), "mark %d" % n))
+            else:
+                out.append((b"D" + bytes([track]) + sized(cells), None))
+            out.append((b"D" + bytes([rng.randrange(256)]) + sized(cells), None))
+            out.append((b"D" + bytes([track]) + sized(damaged(rng, cells, track)), None))
+        if i % 10 == 7:
+            runs = b"".join(bytes([1] * rng.randrange(12) + [0, 0, 1, 1, 1] + [rng.randrange(3)] * rng.randrange(3)) for _ in range(40))
+            out.append((b"O" + rng.randrange(len(runs) + 20).to_bytes(4, "big") + sized(runs), None))
+    return out
+
+
+def main():
+    if sys.argv[1] == "--records":
+        sys.stdout.buffer.write(b"".join(r for r, _ in records(int(sys.argv[2]), int(sys.argv[3]))))
+        return
+    codec, baseline = sys.argv[1:3]
+    seed = int(sys.argv[3]) if len(sys.argv) > 3 else random.randrange(1 << 32)
+    count = int(sys.argv[4]) if len(sys.argv) > 4 else 4_000
+    made = records(seed, count)
+    data = b"".join(r for r, _ in made)
+    ours, theirs = (subprocess.run([p], input=data, capture_output=True, check=True).stdout.decode().splitlines() for p in (codec, baseline))
+    if len(ours) != len(made) or len(theirs) != len(made):
+        sys.exit(f"seed {seed}: {len(made)} records, {len(ours)} lines of ours, {len(theirs)} of the baseline's")
+    for i, (_, expected) in enumerate(made):
+        if ours[i] != theirs[i] or expected not in (None, ours[i]):
+            sys.exit(f"seed {seed}, record {i}: ours '{ours[i]}', baseline '{theirs[i]}', expected {expected!r}")
+    kinds = {}
+    for line in ours:
+        kinds[line.split()[0]] = kinds.get(line.split()[0], 0) + 1
+    print(f"outside: seed {seed}, {len(made)} records alike; " + ", ".join(f"{k} {n}" for k, n in sorted(kinds.items())))
+
+
+main()
