@@ -7,6 +7,7 @@ use std::io::Read;
 use recorder::Recorder;
 use script::Command;
 use script::Reader;
+use tape::Flaw;
 
 mod recorder;
 
@@ -37,7 +38,14 @@ fn perform(rt: &LibcRuntime, recorder: &mut Recorder, command: Command<'_>) -> R
         Command::Mark => recorder.mark(rt),
         Command::Stop => recorder.stop(rt),
         Command::Replay => recorder.replay(rt),
-        Command::Flaw { .. } => not_built(rt, "flaw"),
+        Command::Flaw {
+            track,
+            place,
+            length,
+        } => {
+            let extent = u32::from(length);
+            recorder.flaw(rt, Flaw { on: track, place, extent })
+        }
         Command::Survey => not_built(rt, "survey"),
     }
 }
@@ -49,7 +57,7 @@ fn not_built(rt: &LibcRuntime, command: &str) -> Result<(), AnyError> {
 
 // Runs a script to its end, or to the first command that cannot be read, and stops what is open then.
 fn run(rt: &LibcRuntime, script: &[u8]) -> Result<(), AnyError> {
-    let mut recorder = Recorder::new(rt.alloc());
+    let mut recorder = Recorder::new(rt.alloc())?;
     let mut reader = Reader::new(script);
     for _ in 0..LIMIT {
         match reader.next_command() {

@@ -1,0 +1,31 @@
+// Cartridges: what one means, the stores, the flaw sheet, and the search for the stretch that holds a number.
+mod beside;
+mod cartridge;
+mod flaw;
+mod limits;
+mod packed;
+mod refusal;
+mod sheet;
+mod stretch;
+mod table;
+
+pub use beside::read_both;
+pub use cartridge::Reading;
+pub use cartridge::Recording;
+pub use flaw::Flaw;
+pub use flaw::FlawDebug;
+pub use flaw::FlawEq;
+pub use flaw::FlawPartialEq;
+pub use flaw::FlawStretch;
+pub use packed::PackedReading;
+pub use packed::PackedRecording;
+pub use packed::PackedStore;
+pub use refusal::Refusal;
+pub use refusal::RefusalDebug;
+pub use refusal::RefusalEq;
+pub use refusal::RefusalPartialEq;
+pub use sheet::FlawSheet;
+pub use sheet::SheetReading;
+pub use sheet::SheetRecording;
+pub use stretch::Stretch;
+pub use stretch::stretch_holding;
