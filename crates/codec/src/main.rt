@@ -1,8 +1,5 @@
 // Runs the format's functions on records from standard input and prints a line for each, to be compared with other software.
 use hash::hash_of;
-use records::Records;
-use std::error::AnyError;
-use std::io::Read;
 use qic24::Content;
 use qic24::CopyFault;
 use qic24::Item;
@@ -12,6 +9,9 @@ use qic24::crc;
 use qic24::decode;
 use qic24::encode;
 use qic24::find_opening;
+use records::Records;
+use std::error::AnyError;
+use std::io::Read;
 
 mod hash;
 mod records;

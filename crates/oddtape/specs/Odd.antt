@@ -17,6 +17,7 @@ abbrev pub thinned : ℕ → List ℕ → List ℕ
 thinned n [] = []
 thinned n (x ∷ xs) = kept n x ∷ thinned (next n x) xs
 
+-- and the count after them
 abbrev pub after : ℕ → List ℕ → ℕ
 after n [] = n
 after n (x ∷ xs) = after (next n x) xs

@@ -7,9 +7,11 @@ use Rattle.tape.specs.Tape.{Tape, Run}
 use Rattle.oddtape.specs.Odd.{thinned, after}
 use Rattle.oddtape.specs.declared.odd.OddTape.{OddTape}
 
+-- the cells in use
 abbrev pub odd-cells : OddTape → List ℕ
 odd-cells s = take (s .used) (s .cells)
 
+-- one track has them
 abbrev pub odd-tape : OddTape → Tape
 odd-tape s = odd-cells s ∷ []
 

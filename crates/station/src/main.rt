@@ -1,12 +1,12 @@
 // The station: runs a job script from standard input and prints a line for each answer.
 ghost use Prim.Native.Nat.{_≤_};
 ghost use Rattle.std.specs.Vec.{made};
-use std::error::AnyError;
-use std::io;
-use std::io::Read;
 use recorder::Recorder;
 use script::Command;
 use script::Reader;
+use std::error::AnyError;
+use std::io;
+use std::io::Read;
 use tape::Flaw;
 
 mod recorder;
@@ -31,7 +31,11 @@ fn read_script(rt: &LibcRuntime, script: &mut [u8; LIMIT]) -> io::Result<usize>
 }
 
 // One command, and the lines that it prints.
-fn perform(rt: &LibcRuntime, recorder: &mut Recorder, command: Command<'_>) -> Result<(), AnyError> {
+fn perform(
+    rt: &LibcRuntime,
+    recorder: &mut Recorder,
+    command: Command<'_>,
+) -> Result<(), AnyError> {
     match command {
         Command::Begin => recorder.begin(rt),
         Command::Write(block) => recorder.write(rt, block),
@@ -44,7 +48,14 @@ fn perform(rt: &LibcRuntime, recorder: &mut Recorder, command: Command<'_>) -> R
             length,
         } => {
             let extent = u32::from(length);
-            recorder.flaw(rt, Flaw { on: track, place, extent })
+            recorder.flaw(
+                rt,
+                Flaw {
+                    on: track,
+                    place,
+                    extent,
+                },
+            )
         }
         Command::Survey => not_built(rt, "survey"),
     }

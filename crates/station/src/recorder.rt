@@ -1,7 +1,7 @@
 // Each item recorded once, on one track under a flaw sheet, and not checked: a stand-in for the deck.
-use std::alloc::AllocError;
-use std::alloc::Global;
-use std::error::AnyError;
+use packed::PackedReading;
+use packed::PackedRecording;
+use packed::PackedStore;
 use qic24::Content;
 use qic24::Item;
 use qic24::LONGEST;
@@ -9,11 +9,11 @@ use qic24::Preamble;
 use qic24::decode;
 use qic24::encode;
 use qic24::find_opening;
+use std::alloc::AllocError;
+use std::alloc::Global;
+use std::error::AnyError;
 use tape::Flaw;
 use tape::FlawSheet;
-use tape::PackedReading;
-use tape::PackedRecording;
-use tape::PackedStore;
 use tape::Reading;
 use tape::Recording;
 use tape::Refusal;

@@ -1,14 +1,8 @@
-pub mod BitsOfBytes
-pub mod Computed
 pub mod Covering
-pub mod Gets
 pub mod Masking
-pub mod PackedTapes
 pub mod Promised
-pub mod Puts
 pub mod Replies
 pub mod Searching
 pub mod Sendings
 pub mod TableFlaws
 pub mod Tapes
-pub mod Words

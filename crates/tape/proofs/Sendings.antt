@@ -23,7 +23,7 @@ sends-keep takes room keeps (r ∷ rs) s e (m, a, b) = sends-keep takes room kee
 
 -- the cells grow by the same runs
 pub sends-grow : {S : Type 0} (cells : S → Tape) (takes : S → Run → S → Type 0) → ((s : S) (r : Run) (e : S) → takes s r e → Longer r (cells s) (cells e))
-  → (rs : List Run) (s e : S) → Sends takes s rs e → Grown (cells s) rs (cells e)
+    → (rs : List Run) (s e : S) → Sends takes s rs e → Grown (cells s) rs (cells e)
 sends-grow cells takes grows [] s e h = ap cells h
 sends-grow cells takes grows (r ∷ rs) s e (m, a, b) = (cells m, grows s r m a, sends-grow cells takes grows rs m e b)
 

@@ -9,11 +9,16 @@ use Rattle.std.specs.declared.result.Result.{Result}
 use Rattle.std.specs.declared.result.Result.the-variants.{Ok, Err}
 use Rattle.tape.specs.declared.refusal.Refusal.{Refusal}
 use Rattle.tape.specs.declared.refusal.Refusal.the-variants.{SheetFull, FlawOutside, FlawTooEarly}
+use Rattle.tape.specs.Tape.{most-cells}
 use Rattle.tape.specs.declared.flaw.Flaw.{Flaw}
+
+-- a sheet holds at most so many flaws
+abbrev pub most-flaws : ℕ
+most-flaws = 64
 
 -- the number of a cell, counted over all tracks
 abbrev pub cell-number : ℕ → ℕ → ℕ
-cell-number t p = t * 100000000 + p
+cell-number t p = t * most-cells + p
 
 -- the number of a flaw's first cell, and that of the first cell after it
 abbrev pub flaw-first : Flaw → ℕ
@@ -50,7 +55,7 @@ Apart fs n = (i j : ℕ) → i < j → j < n → flaw-end (getD fs i no-flaw) �
 
 -- and none goes past the longest possible track
 abbrev pub Whole : List Flaw → ℕ → Type 0
-Whole fs n = (i : ℕ) → i < n → getD fs i no-flaw .place + getD fs i no-flaw .extent ≤ 100000000
+Whole fs n = (i : ℕ) → i < n → getD fs i no-flaw .place + getD fs i no-flaw .extent ≤ most-cells
 
 -- a flaw has cells, on a cartridge with n tracks of c cells
 abbrev pub flaw-fits : ℕ → ℕ → Flaw → Bool
@@ -63,5 +68,5 @@ last-end fs = flaw-end (getD fs (length fs - 1) no-flaw)
 -- the answer to a flaw that is to be entered after some others
 abbrev pub entering : List Flaw → ℕ → ℕ → Flaw → Result (Unit {0}) Refusal
 entering fs n c f =
-    cond (eqb (length fs) 64) (Err SheetFull)
+    cond (eqb (length fs) most-flaws) (Err SheetFull)
     (cond (flaw-fits n c f) (cond (leb (last-end fs) (flaw-first f)) (Ok tt) (Err FlawTooEarly)) (Err FlawOutside))

@@ -1,9 +1,6 @@
 pub mod Calls
 pub mod FlawTables
 pub mod Flaws
-pub mod Packed
-pub mod PackedStores
-pub mod Packing
 pub mod Promises
 pub mod Refusals
 pub mod Sheets

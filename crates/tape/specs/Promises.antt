@@ -22,6 +22,7 @@ abbrev pub reads : List ℕ → ℕ → List ℕ → List ℕ
 reads cells p [] = []
 reads cells p (n ∷ ns) = take n (drop p cells) ++ reads cells (p + n) ns
 
+-- some numbers together
 abbrev pub total : List ℕ → ℕ
 total [] = 0
 total (n ∷ ns) = n + total ns

@@ -3,6 +3,7 @@ use Prim.Native.Nat.{ℕ}
 use Rattle.tape.specs.declared.refusal.Refusal.{Refusal}
 use Rattle.tape.specs.declared.refusal.Refusal.the-variants.{FlawOutside, FlawTooEarly, NoTrack, BadStore, SheetFull, TrackFull, PastEnd}
 
+-- by which a refusal is printed
 abbrev pub refusal-number : Refusal → ℕ
 refusal-number FlawOutside = 4
 refusal-number FlawTooEarly = 5

@@ -5,11 +5,11 @@ use mathlib.Core.List.{_++_}
 use Prim.Native.Nat.{ℕ, _<_}
 use lib.Dec.{leb}
 use lib.ListN.{length, set}
-use Rattle.tape.specs.Tape.{Tape, track, Run}
+use Rattle.tape.specs.Tape.{Tape, most-tracks, most-cells, track, Run}
 
--- 1 to 9 tracks, each of 1 to 100,000,000 cells
+-- one track at least, and one cell at least on each, up to what a cartridge can have
 abbrev pub within-limits : ℕ → ℕ → Bool
-within-limits t c = (leb 1 t && leb t 9) && (leb 1 c && leb c 100000000)
+within-limits t c = (leb 1 t && leb t most-tracks) && (leb 1 c && leb c most-cells)
 
 -- the tape after a run to a medium that spoils nothing: the track's cells, followed by those that were sent
 pub record Unspoiled (r : Run) (before after : Tape) : Type 0 where

@@ -6,7 +6,7 @@ use Rattle.std.specs.Places.{At}
 use Rattle.std.specs.Options.{Cases}
 use Rattle.std.specs.declared.option.Option.{Option}
 
--- the number n is one of the numbers from `from` on, of which there are `count`
+-- n is one of the numbers from `from` on, of which there are `count`
 abbrev pub Holds : ℕ → ℕ → ℕ → Type 0
 Holds from count n = (from ≤ n) × (n < from + count)
 

@@ -7,6 +7,13 @@ use lib.Dec.{eqb}
 use lib.ListN.{length, getD, replicate}
 use Rattle.std.specs.Iters.{counting}
 
+-- a cartridge has at most so many tracks, and at most so many cells on each
+abbrev pub most-tracks : ℕ
+most-tracks = 9
+
+abbrev pub most-cells : ℕ
+most-cells = 100000000
+
 -- the cells of each track, from its start; a cell is 0 or 1
 abbrev pub Tape : Type 0
 Tape = List (List ℕ)
@@ -36,6 +43,7 @@ pub record Run : Type 0 where
   pub on : ℕ
   pub sent : List ℕ
 
+-- the run of the cells x to the track t
 abbrev pub run : ℕ → List ℕ → Run
 run t x = record { on = t; sent = x }
 

@@ -6,7 +6,7 @@ ghost use lib.ListN.{length, take, drop};
 ghost use Rattle.std.specs.Results.{Cases};
 ghost use Rattle.std.specs.shelf.Lists.{All};
 ghost use Rattle.tape.specs.Calls.{length-answer, read-answer, append-answer};
-ghost use Rattle.tape.specs.Tape.{Tape, track, Cell, cell, Run, run, Longer};
+ghost use Rattle.tape.specs.Tape.{Tape, most-tracks, most-cells, track, Cell, cell, Run, run, Longer};
 use crate::refusal::Refusal;
 
 // A cartridge that can be read, with the whole meaning of a cartridge.
@@ -20,9 +20,9 @@ pub trait Reading {
     // What an append may lead to: which cells the medium spoils is said here, and nothing else about it is assumed.
     ghost takes: { Self → Run → Self → Type 0 };
 
-    law few: { (s : Self) → length (cells s) ≤ 9 };
+    law few: { (s : Self) → length (cells s) ≤ most-tracks };
 
-    law small: { (s : Self) → room s ≤ 100000000 };
+    law small: { (s : Self) → room s ≤ most-cells };
 
     law empty: { (s : Self) → length (cells s) ≡ 0 → room s ≡ 0 };
 

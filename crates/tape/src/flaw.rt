@@ -1,6 +1,7 @@
 // A stretch of bad cells on a track.
 ghost use mathlib.Core.Path.{_≡_};
 ghost use Rattle.tape.specs.Flaws.{cell-number, flaw-first, flaw-end};
+use crate::limits::MOST_CELLS;
 use crate::stretch::Stretch;
 
 #[derive(Clone, Copy, PartialEq, Eq, Debug)]
@@ -38,5 +39,5 @@ pub impl Stretch for Flaw as FlawStretch {
 pub fn cell_number(at: u8, place: u32) -> u64
     ensures { λ r. ⌜ r ≡ cell-number at place ⌝ }
 {
-    at as u64 * 100_000_000 + place as u64
+    at as u64 * MOST_CELLS as u64 + place as u64
 }

@@ -11,7 +11,7 @@ pub enum Refusal {
     NoTrack,
     // Tracks or capacity outside the limits, or too little memory.
     BadStore,
-    // 64 flaws are entered.
+    // As many flaws are entered as a sheet holds.
     SheetFull,
     // The cells would exceed the capacity.
     TrackFull,

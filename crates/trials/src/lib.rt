@@ -4,12 +4,12 @@ mod tests {
     use oddtape::OddReading;
     use oddtape::OddRecording;
     use oddtape::OddTape;
+    use packed::PackedReading;
+    use packed::PackedRecording;
+    use packed::PackedStore;
     use std::test::*;
     use tape::Flaw;
     use tape::FlawSheet;
-    use tape::PackedReading;
-    use tape::PackedRecording;
-    use tape::PackedStore;
     use tape::Reading;
     use tape::Recording;
     use tape::Refusal;
@@ -78,15 +78,71 @@ mod tests {
     fn flaws_send_zeros(rt: LibcRuntime) -> Result<(), Fail> {
         let (store, _) = PackedStore::new(vec![in rt.alloc(); 0u8; 4]?, 2, 10);
         let mut inner = FlawSheet::new(store);
-        check_eq(inner.enter(Flaw { on: 1, place: 9, extent: 1 }), Ok(()))?;
+        check_eq(
+            inner.enter(Flaw {
+                on: 1,
+                place: 9,
+                extent: 1,
+            }),
+            Ok(()),
+        )?;
         let mut sheet = FlawSheet::new(inner);
-        check_eq(sheet.enter(Flaw { on: 2, place: 0, extent: 1 }), Err(Refusal::FlawOutside))?;
-        check_eq(sheet.enter(Flaw { on: 0, place: 9, extent: 2 }), Err(Refusal::FlawOutside))?;
-        check_eq(sheet.enter(Flaw { on: 0, place: 0, extent: 0 }), Err(Refusal::FlawOutside))?;
-        check_eq(sheet.enter(Flaw { on: 0, place: 9, extent: 1 }), Ok(()))?;
-        check_eq(sheet.enter(Flaw { on: 1, place: 0, extent: 2 }), Ok(()))?;
-        check_eq(sheet.enter(Flaw { on: 1, place: 1, extent: 1 }), Err(Refusal::FlawTooEarly))?;
-        check_eq(sheet.enter(Flaw { on: 1, place: 2, extent: 1 }), Ok(()))?;
+        check_eq(
+            sheet.enter(Flaw {
+                on: 2,
+                place: 0,
+                extent: 1,
+            }),
+            Err(Refusal::FlawOutside),
+        )?;
+        check_eq(
+            sheet.enter(Flaw {
+                on: 0,
+                place: 9,
+                extent: 2,
+            }),
+            Err(Refusal::FlawOutside),
+        )?;
+        check_eq(
+            sheet.enter(Flaw {
+                on: 0,
+                place: 0,
+                extent: 0,
+            }),
+            Err(Refusal::FlawOutside),
+        )?;
+        check_eq(
+            sheet.enter(Flaw {
+                on: 0,
+                place: 9,
+                extent: 1,
+            }),
+            Ok(()),
+        )?;
+        check_eq(
+            sheet.enter(Flaw {
+                on: 1,
+                place: 0,
+                extent: 2,
+            }),
+            Ok(()),
+        )?;
+        check_eq(
+            sheet.enter(Flaw {
+                on: 1,
+                place: 1,
+                extent: 1,
+            }),
+            Err(Refusal::FlawTooEarly),
+        )?;
+        check_eq(
+            sheet.enter(Flaw {
+                on: 1,
+                place: 2,
+                extent: 1,
+            }),
+            Ok(()),
+        )?;
         check_eq(sheet.append(1, &[1]), Ok(()))?;
         check_eq(sheet.append(1, &[1, 1, 1, 0, 1, 1, 1, 1, 1]), Ok(()))?;
         let mut out = [9u8; 10];
@@ -99,17 +155,38 @@ mod tests {
         let (store, _) = PackedStore::new(vec![in rt.alloc(); 0u8; 20]?, 1, 160);
         let mut sheet = FlawSheet::new(store);
         for i in 0..64u32 {
-            check_eq(sheet.enter(Flaw { on: 0, place: 2 * i, extent: 1 }), Ok(()))?;
+            check_eq(
+                sheet.enter(Flaw {
+                    on: 0,
+                    place: 2 * i,
+                    extent: 1,
+                }),
+                Ok(()),
+            )?;
         }
         check_eq(sheet.flaws().len(), 64)?;
-        check_eq(sheet.enter(Flaw { on: 9, place: 0, extent: 0 }), Err(Refusal::SheetFull))
+        check_eq(
+            sheet.enter(Flaw {
+                on: 9,
+                place: 0,
+                extent: 0,
+            }),
+            Err(Refusal::SheetFull),
+        )
     }
 
     // Every third one is dropped, counted over both appends; the sheet's zero is no one.
     #[test]
     fn drops_every_third_one() -> Result<(), Fail> {
         let mut sheet = FlawSheet::new(OddTape::new());
-        check_eq(sheet.enter(Flaw { on: 0, place: 1, extent: 1 }), Ok(()))?;
+        check_eq(
+            sheet.enter(Flaw {
+                on: 0,
+                place: 1,
+                extent: 1,
+            }),
+            Ok(()),
+        )?;
         check_eq(sheet.append(0, &[1, 1, 1]), Ok(()))?;
         check_eq(sheet.append(0, &[1, 0, 1, 1, 1]), Ok(()))?;
         let mut out = [9u8; 8];
@@ -125,8 +202,14 @@ mod tests {
         check_eq(odd.append(0, &[1, 0, 1, 1]), Ok(()))?;
         let mut one = [9u8; 3];
         let mut other = [8u8; 3];
-        check_eq(read_both(&store, &odd, 0, 1, &mut one, &mut other), (Ok(()), Ok(())))?;
+        check_eq(
+            read_both(&store, &odd, 0, 1, &mut one, &mut other),
+            (Ok(()), Ok(())),
+        )?;
         check_eq(one, other)?;
-        check_eq(read_both(&store, &odd, 0, 2, &mut one, &mut other), (Err(Refusal::PastEnd), Err(Refusal::PastEnd)))
+        check_eq(
+            read_both(&store, &odd, 0, 2, &mut one, &mut other),
+            (Err(Refusal::PastEnd), Err(Refusal::PastEnd)),
+        )
     }
 }

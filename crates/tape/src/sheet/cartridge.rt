@@ -6,7 +6,7 @@ ghost use lib.ListN.{length};
 ghost use Rattle.std.specs.Vec.{made};
 ghost use Rattle.std.specs.declared.result.Result.the-variants.{Ok};
 ghost use Rattle.tape.specs.Calls.{append-answer};
-ghost use Rattle.tape.specs.Tape.{track, cell, run};
+ghost use Rattle.tape.specs.Tape.{most-cells, track, cell, run};
 ghost use Rattle.tape.specs.Flaws.{masked, Clean};
 ghost use Rattle.tape.specs.Sheets.{sheet-flaws, Passes, sheet-takes};
 use crate::cartridge::Reading;
@@ -60,7 +60,7 @@ impl<C: Recording> FlawSheet<C> {
     // Sends cells for the places from `place` on, with a zero wherever one is under a flaw.
     fn send_part(&mut self, at: u8, place: u32, sent: &[u8]) -> Result<(), Refusal>
         requires part { ⌜ length (now sent) ≤ 512 ⌝ }
-        requires small { ⌜ place + length (now sent) ≤ 100000000 ⌝ }
+        requires small { ⌜ place + length (now sent) ≤ most-cells ⌝ }
         ensures answer { λ r. ⌜ r ≡ append-answer (C·Reading .cells (now (self .entry) .inner)) (C·Reading .room (now (self .entry) .inner)) at (length (now (sent .entry))) ⌝ }
         ensures inner { λ r. ⌜ made r (λ _. C·Reading .takes (now (self .entry) .inner) (run at (masked (sheet-flaws (now (self .entry))) at place (map cell (now (sent .entry))))) (now (self .exit) .inner)) ⌝ }
         ensures table { λ _. ⌜ now (self .exit) .table ≡ now (self .entry) .table ⌝ }

@@ -39,7 +39,7 @@ impl<C> FlawSheet<C> {
     pub fn into_inner(self) -> C
         ensures { λ r. ⌜ r ≡ self .inner ⌝ }
     {
-        let inner = self.inner;
+        let FlawSheet { inner, .. } = self;
         inner
     }
 

@@ -3,6 +3,7 @@ ghost use mathlib.Core.Path.{_≡_};
 ghost use mathlib.Core.List.{[], _∷_, _++_};
 ghost use Prim.Native.Nat.{_≤_};
 ghost use Rattle.std.specs.Results.{Cases};
+ghost use Rattle.tape.specs.Tape.{most-cells};
 ghost use Rattle.tape.specs.Flaws.{flaw-fits, last-end, entering};
 ghost use Rattle.tape.specs.FlawTables.{table-flaws};
 use crate::flaw::Flaw;
@@ -10,6 +11,7 @@ use crate::flaw::FlawStretch;
 use crate::refusal::Refusal;
 use crate::stretch::Stretch;
 use crate::table::FlawTable;
+use crate::table::MOST_FLAWS;
 
 // Whether a flaw has cells, all of them on a cartridge of these sizes.
 fn fits(flaw: Flaw, tracks: u8, capacity: u32) -> bool
@@ -28,7 +30,7 @@ impl FlawTable {
             extent: 0,
         };
         FlawTable {
-            flaws: [none; 64],
+            flaws: [none; MOST_FLAWS],
             count: 0,
         }
     }
@@ -50,11 +52,11 @@ impl FlawTable {
     }
 
     pub fn enter(&mut self, flaw: Flaw, tracks: u8, capacity: u32) -> Result<(), Refusal>
-        requires { ⌜ capacity ≤ 100000000 ⌝ }
+        requires { ⌜ capacity ≤ most-cells ⌝ }
         ensures answer { λ r. ⌜ r ≡ entering (table-flaws (now (self .entry))) tracks capacity flaw ⌝ }
         ensures table { λ r. ⌜ Cases r (λ _. table-flaws (now (self .exit)) ≡ table-flaws (now (self .entry)) ++ flaw ∷ []) (λ _. now (self .exit) ≡ now (self .entry)) ⌝ }
     {
-        if self.count == 64 {
+        if self.count == MOST_FLAWS {
             return Err(Refusal::SheetFull);
         }
         if !fits(flaw, tracks, capacity) {

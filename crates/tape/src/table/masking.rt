@@ -3,6 +3,7 @@ ghost use mathlib.Core.Path.{_≡_};
 ghost use mathlib.Core.Bool.{true, false};
 ghost use Prim.Native.Nat.{_+_, _≤_};
 ghost use lib.ListN.{length};
+ghost use Rattle.tape.specs.Tape.{most-cells};
 ghost use Rattle.tape.specs.Flaws.{Clean, masked};
 ghost use Rattle.tape.specs.FlawTables.{table-flaws};
 use crate::flaw::FlawStretch;
@@ -14,7 +15,7 @@ use crate::table::FlawTable;
 impl FlawTable {
     // Whether one of some cells of a track is under a flaw.
     pub fn touches(&self, at: u8, place: u32, count: usize) -> bool
-        requires { ⌜ place + count ≤ 100000000 ⌝ }
+        requires { ⌜ place + count ≤ most-cells ⌝ }
         ensures clean { λ r. ⌜ (r ≡ false → Clean (table-flaws (now (self .entry))) at place count) ⌝ }
         ensures touched { λ r. ⌜ (r ≡ true → Clean (table-flaws (now (self .entry))) at place count → ⊥) ⌝ }
     {
@@ -30,7 +31,7 @@ impl FlawTable {
 
     // Makes a zero of each cell that is under a flaw.
     pub fn mask(&self, at: u8, place: u32, cells: &mut [u8])
-        requires { ⌜ place + length (now cells) ≤ 100000000 ⌝ }
+        requires { ⌜ place + length (now cells) ≤ most-cells ⌝ }
         ensures { λ _. ⌜ now (cells .exit) ≡ masked (table-flaws (now (self .entry))) at place (now (cells .entry)) ⌝ }
     {
         let from = cell_number(at, place);
@@ -44,7 +45,7 @@ impl FlawTable {
 
     // The same, into a buffer.
     pub fn mask_into(&self, at: u8, place: u32, sent: &[u8], out: &mut [u8])
-        requires small { ⌜ place + length (now sent) ≤ 100000000 ⌝ }
+        requires small { ⌜ place + length (now sent) ≤ most-cells ⌝ }
         requires same { ⌜ length (now out) ≡ length (now sent) ⌝ }
         ensures { λ _. ⌜ now (out .exit) ≡ masked (table-flaws (now (self .entry))) at place (now (sent .entry)) ⌝ }
     {

@@ -27,7 +27,7 @@ returns c =
     let n = table-length t in
     let late : last-end (table-flaws t) ≤ flaw-first f = omega arith in
     record {
-      answer = sym (cond-false (eqb (length (table-flaws t)) 64) _ _ (ne-eqb (length (table-flaws t)) 64 (λ e. c .if-self-eq64 .left (sym n ∙ e)))
+      answer = sym (cond-false (eqb (length (table-flaws t)) 64) _ _ (ne-eqb (length (table-flaws t)) 64 (λ e. c .if-self-eq-MOST-FLAWS .left (sym n ∙ e)))
           ∙ (cond-true (flaw-fits (c .args .tracks) (c .args .capacity) f) _ _ (sym (c .if-not-fits .ensures tt))
           ∙ cond-true (leb (last-end (table-flaws t)) (flaw-first f)) _ _ (le-leb (last-end (table-flaws t)) (flaw-first f) late)));
       table = take-more-set (t .flaws) (t .count) f (omega arith);

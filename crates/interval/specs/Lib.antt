@@ -1,0 +1,4 @@
+pub mod Gaps
+pub mod Intervals
+pub mod Marks
+pub mod IntervalStores

@@ -1,8 +1,0 @@
-use lib.Bits.{and-mask}
-use Prim.Native.Nat.{_/_, _-_, _^_}
-use Rattle.tape.specs.Packed.{bit}
-use Rattle.tape.proofs.packed.bytes.bit_of.Needs as need
-
-pub returns : need.returns
-unfolding bit
-returns c = and-mask (c .args .byte / 2 ^ (7 - c .args .j)) 1
