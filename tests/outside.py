@@ -1,9 +1,9 @@
 #!/usr/bin/env python3
-"""The format against other software, on random records.
+"""The format and the cartridges against other software, on random records.
 
-    tests/outside.py CODEC BASELINE [SEED [COUNT]]
+    tests/outside.py OURS BASELINE [SEED [COUNT]]
 
-CODEC is the program of crates/codec, BASELINE that of bench/ (bin codec). Each reads the same records; the CRC lines are
+OURS is the program of crates/compare, BASELINE that of bench/ (bin compare). Each reads the same records; the CRC lines are
 also held to binascii.crc_hqx(data, 0xffff), and copies that are not damaged to an encoder written here.
 `--records SEED COUNT` prints the records alone.
 """
@@ -102,16 +102,86 @@ def records(seed, count):
     return out
 
 
+SIZES = (0, 1, 2, 7, 8, 9, 15, 16, 17, 63, 255, 256, 300)
+
+
+def cells_of(rng, size):
+    return rng.choice((
+        lambda: bytes(size),
+        lambda: bytes([1]) * size,
+        lambda: bytes(rng.choice((0, 0, 0, 1)) for _ in range(size)),
+        lambda: bytes(rng.choice((0, 1, 2, 255)) for _ in range(size)),
+    ))()
+
+
+def store_records(rng):
+    """One store, by turns packed and interval over the same records, with appends, reads and flaws at the edges."""
+    tracks = rng.choice((0, 1, 1, 2, 9, 10))
+    capacity = rng.choice((0, 1, 7, 8, 9, 64, 255, 256, 300, 2_000, 2_001))
+    need = (tracks * ((capacity + 7) // 8), tracks * capacity)
+    short = rng.choice((0, 0, 0, 1))
+    out = []
+    used = [0] * 16
+    for _ in range(rng.randrange(12)):
+        place = rng.choice((0, 1, max(capacity, 1) - 1, rng.randrange(capacity + 2)))
+        out.append((b"F" + bytes([rng.randrange(tracks + 1)]) + place.to_bytes(4, "big") + rng.choice((0, 1, 2, 8, 9, 40)).to_bytes(2, "big"), 1))
+    for _ in range(rng.randrange(40)):
+        track = rng.randrange(tracks + 1)
+        left = max(capacity - used[track], 0)
+        size = rng.choice(SIZES + (left, left + 1, max(left, 1) - 1))
+        if rng.randrange(2):
+            out.append((b"A" + bytes([track]) + sized(cells_of(rng, size)), 1))
+            if track < tracks and size <= left:
+                used[track] += size
+        else:
+            place = rng.choice((0, used[track], used[track] + 1, max(used[track] - size, 0), rng.randrange(used[track] + 1)))
+            out.append((b"R" + bytes([track]) + place.to_bytes(4, "big") + size.to_bytes(2, "big"), 2))
+            out.append((b"L" + bytes([track]), 1))
+    made = []
+    for kind in (0, 1):
+        memory = max(need[kind] - short, 0)
+        made.append((b"S" + bytes([kind, tracks]) + capacity.to_bytes(4, "big") + memory.to_bytes(4, "big"), 2))
+        made += out
+    return made, 2 + sum(n for _, n in out)
+
+
+def full_sheet():
+    """64 flaws that touch, and a 65th."""
+    head = b"S" + bytes([0, 1]) + (200).to_bytes(4, "big") + (25).to_bytes(4, "big")
+    flaws = b"".join(b"F" + bytes([0]) + (3 * i).to_bytes(4, "big") + (3).to_bytes(2, "big") for i in range(65))
+    return head + flaws + b"A" + bytes([0]) + sized(bytes([1]) * 200) + b"R" + bytes([0]) + bytes(4) + (200).to_bytes(2, "big")
+
+
+def run(program, data):
+    return subprocess.run([program], input=data, capture_output=True, check=True).stdout.decode().splitlines()
+
+
+def stores(ours, baseline, seed, count):
+    """Random cartridges: ours like the baseline's, and both of our stores alike where the memory of each suffices."""
+    rng = random.Random(seed)
+    for i in range(count):
+        made, size = store_records(rng)
+        data = b"".join(r for r, _ in made)
+        a, b = run(ours, data), run(baseline, data)
+        if a != b:
+            sys.exit(f"seed {seed}, store {i}: line {next(k for k in range(len(a)) if a[k:k + 1] != b[k:k + 1])} differs")
+        if len(a) != 2 * size or a[0] == a[size] and a[:size] != a[size:]:
+            sys.exit(f"seed {seed}, store {i}: the packed and the interval store differ")
+    if run(ours, full_sheet()) != run(baseline, full_sheet()):
+        sys.exit("a full sheet differs")
+    print(f"outside: seed {seed}, {count} cartridges alike, packed, interval and baseline")
+
+
 def main():
     if sys.argv[1] == "--records":
         sys.stdout.buffer.write(b"".join(r for r, _ in records(int(sys.argv[2]), int(sys.argv[3]))))
         return
-    codec, baseline = sys.argv[1:3]
+    program, baseline = sys.argv[1:3]
     seed = int(sys.argv[3]) if len(sys.argv) > 3 else random.randrange(1 << 32)
     count = int(sys.argv[4]) if len(sys.argv) > 4 else 4_000
     made = records(seed, count)
     data = b"".join(r for r, _ in made)
-    ours, theirs = (subprocess.run([p], input=data, capture_output=True, check=True).stdout.decode().splitlines() for p in (codec, baseline))
+    ours, theirs = run(program, data), run(baseline, data)
     if len(ours) != len(made) or len(theirs) != len(made):
         sys.exit(f"seed {seed}: {len(made)} records, {len(ours)} lines of ours, {len(theirs)} of the baseline's")
     for i, (_, expected) in enumerate(made):
@@ -121,6 +191,7 @@ def main():
     for line in ours:
         kinds[line.split()[0]] = kinds.get(line.split()[0], 0) + 1
     print(f"outside: seed {seed}, {len(made)} records alike; " + ", ".join(f"{k} {n}" for k, n in sorted(kinds.items())))
+    stores(program, baseline, seed, count // 10)
 
 
 main()

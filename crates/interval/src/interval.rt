@@ -10,8 +10,6 @@ mod adding;
 mod copying;
 mod index;
 mod store;
-#[cfg(test)]
-mod tests;
 
 use index::Index;
 pub use store::IntervalReading;

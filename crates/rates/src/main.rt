@@ -1,5 +1,8 @@
 // How fast the format and the stores are: the names go to standard output, the rates to standard error.
 use clock::Watch;
+use interval::IntervalReading;
+use interval::IntervalRecording;
+use interval::IntervalStore;
 use packed::PackedReading;
 use packed::PackedRecording;
 use packed::PackedStore;
@@ -106,6 +109,26 @@ fn format_rates(rt: &LibcRuntime, cells: &mut [u8; LONGEST]) -> Result<(), AnyEr
 // The amount that a store is asked to take and to give: all runs.
 const AMOUNT: u64 = 19_995_030;
 
+fn interval(rt: &LibcRuntime) -> Result<IntervalStore, AnyError> {
+    let memory = vec![in rt.alloc(); 0xA5u8; CAPACITY as usize]?;
+    let (store, _) = IntervalStore::new(memory, 1, CAPACITY);
+    Ok(store)
+}
+
+fn interval_rates(rt: &LibcRuntime, copy: &[u8]) -> Result<(), AnyError> {
+    let mut watch = Watch::new();
+    let mut full = interval(rt)?;
+    for _ in 0..TIMES {
+        full = interval(rt)?;
+        watch.start(rt)?;
+        let count = append_all(&mut full, copy);
+        watch.stop(rt)?;
+        println!(rt, "interval appended {count}")?;
+    }
+    watch.report(rt, "interval_append", AMOUNT, "cells/s")?;
+    read_rates(rt, &full, "interval_read")
+}
+
 fn packed(rt: &LibcRuntime) -> Result<PackedStore, AnyError> {
     let memory = vec![in rt.alloc(); 0xA5u8; 2_500_000]?;
     let (store, _) = PackedStore::new(memory, 1, CAPACITY);
@@ -141,7 +164,8 @@ fn read_rates<C: Reading>(rt: &LibcRuntime, store: &C, name: &str) -> Result<(),
 fn run(rt: &LibcRuntime) -> Result<(), AnyError> {
     let mut cells = [0; LONGEST];
     format_rates(rt, &mut cells)?;
-    packed_rates(rt, &cells[0..COPY])
+    packed_rates(rt, &cells[0..COPY])?;
+    interval_rates(rt, &cells[0..COPY])
 }
 
 fn main(rt: LibcRuntime) -> Result<(), AnyError> {

@@ -36,7 +36,7 @@ pub impl Stretch for Flaw as FlawStretch {
 }
 
 // The number of a cell, counted over all tracks.
-pub fn cell_number(at: u8, place: u32) -> u64
+pub(crate) fn cell_number(at: u8, place: u32) -> u64
     ensures { λ r. ⌜ r ≡ cell-number at place ⌝ }
 {
     at as u64 * MOST_CELLS as u64 + place as u64

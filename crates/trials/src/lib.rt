@@ -1,5 +1,8 @@
 // Short trials of the cartridges, each with cells written out.
 #[cfg(test)]
+mod intervals;
+
+#[cfg(test)]
 mod tests {
     use oddtape::OddReading;
     use oddtape::OddRecording;

@@ -24,7 +24,7 @@ fn add_cell(bytes: &mut [u8], used: usize, zeros: usize, sent: u8) -> (usize, us
 }
 
 // Adds cells to a track with so many bytes and zeros, and answers how many it has then.
-pub fn add_cells(bytes: &mut [u8], used: usize, zeros: usize, sent: &[u8]) -> (usize, usize)
+pub(crate) fn add_cells(bytes: &mut [u8], used: usize, zeros: usize, sent: &[u8]) -> (usize, usize)
     requires within { ⌜ used + zeros + length (now sent) ≤ length (now bytes) ⌝ }
     requires short { ⌜ zeros < 255 ⌝ }
     ensures { λ r. ⌜ Spelled used zeros (now (bytes .entry)) (map cell (now (sent .entry))) (now (bytes .exit)) (r .0) (r .1) ⌝ }

@@ -71,7 +71,7 @@ fn set_ones(bytes: &[u8], place: usize, out: &mut [u8])
 }
 
 // Copies the cells of some bytes, followed by zeros, from `place` on.
-pub fn copy_cells(bytes: &[u8], place: usize, out: &mut [u8])
+pub(crate) fn copy_cells(bytes: &[u8], place: usize, out: &mut [u8])
     requires small { ⌜ length (now bytes) ≤ 100000000 ⌝ }
     requires within { ⌜ place + length (now out) ≤ 100000000 ⌝ }
     ensures { λ _. ⌜ Copied place (now (bytes .entry)) (now (out .entry)) (now (out .exit)) ⌝ }

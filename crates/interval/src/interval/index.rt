@@ -19,7 +19,7 @@ pub struct Index {
 }
 
 impl Index {
-    pub fn new() -> Index
+    pub(crate) fn new() -> Index
         ensures used { λ r. ⌜ ((k : ℕ) → getD (r .used) k 0 ≡ 0) ⌝ }
         ensures zeros { λ r. ⌜ ((k : ℕ) → getD (r .zeros) k 0 ≡ 0) ⌝ }
     {
@@ -30,7 +30,7 @@ impl Index {
     }
 
     // Notes where a track stands.
-    pub fn note(&mut self, mark: usize, used: u32, zeros: u8)
+    pub(crate) fn note(&mut self, mark: usize, used: u32, zeros: u8)
         requires within { ⌜ mark < 4608 ⌝ }
         requires short { ⌜ zeros < 255 ⌝ }
         ensures used { λ _. ⌜ now (self .exit) .used ≡ set (now (self .entry) .used) mark used ⌝ }
@@ -41,7 +41,7 @@ impl Index {
     }
 
     // Where a track stood.
-    pub fn noted(&self, mark: usize) -> (usize, usize)
+    pub(crate) fn noted(&self, mark: usize) -> (usize, usize)
         requires { ⌜ mark < 4608 ⌝ }
         ensures used { λ r. ⌜ r .0 ≡ getD (now (self .entry) .used) mark 0 ⌝ }
         ensures zeros { λ r. ⌜ r .1 ≡ getD (now (self .entry) .zeros) mark 0 ⌝ }
@@ -58,7 +58,7 @@ fn stride(capacity: u32) -> usize
 }
 
 // How many cells a track with so many lacks to its next mark.
-pub fn to_next_mark(cells: usize, capacity: u32) -> usize
+pub(crate) fn to_next_mark(cells: usize, capacity: u32) -> usize
     ensures some { λ r. ⌜ 0 < r ⌝ }
     ensures next { λ r. ⌜ cells + r ≡ cells / mark-stride capacity * mark-stride capacity + mark-stride capacity ⌝ }
 {
@@ -67,7 +67,7 @@ pub fn to_next_mark(cells: usize, capacity: u32) -> usize
 }
 
 // The mark at a place of a track, or the first one after it.
-pub fn mark_ahead(at: u8, place: usize, capacity: u32) -> usize
+pub(crate) fn mark_ahead(at: u8, place: usize, capacity: u32) -> usize
     requires there { ⌜ at < 9 ⌝ }
     requires inside { ⌜ place ≤ capacity ⌝ }
     ensures value { λ r. ⌜ r ≡ mark-of at ((place + mark-stride capacity - 1) / mark-stride capacity) ⌝ }
@@ -78,7 +78,7 @@ pub fn mark_ahead(at: u8, place: usize, capacity: u32) -> usize
 }
 
 // The mark at a place of a track, or the last one before it, and the cells to that mark.
-pub fn mark_behind(at: u8, place: usize, capacity: u32) -> (usize, usize)
+pub(crate) fn mark_behind(at: u8, place: usize, capacity: u32) -> (usize, usize)
     requires there { ⌜ at < 9 ⌝ }
     requires inside { ⌜ place ≤ capacity ⌝ }
     ensures mark { λ r. ⌜ r .0 ≡ mark-of at (place / mark-stride capacity) ⌝ }

@@ -109,7 +109,7 @@ fn put_aligned(bytes: &mut [u8], base: usize, place: usize, sent: &[u8])
 }
 
 // Puts cells at the places of a track from `place` on. The track's bytes stand from `base` on.
-pub fn put(bytes: &mut [u8], base: usize, place: usize, sent: &[u8])
+pub(crate) fn put(bytes: &mut [u8], base: usize, place: usize, sent: &[u8])
     requires small { ⌜ place + length (now sent) ≤ most-cells ⌝ }
     requires within { ⌜ base + packed-bytes (place + length (now sent)) ≤ length (now bytes) ⌝ }
     ensures { λ _. ⌜ Put base place (now (sent .entry)) (now (bytes .entry)) (now (bytes .exit)) ⌝ }
@@ -161,7 +161,7 @@ fn get_aligned(bytes: &[u8], base: usize, place: usize, out: &mut [u8])
 }
 
 // Copies the cells of a track from `place` on.
-pub fn get(bytes: &[u8], base: usize, place: usize, out: &mut [u8])
+pub(crate) fn get(bytes: &[u8], base: usize, place: usize, out: &mut [u8])
     requires small { ⌜ place + length (now out) ≤ most-cells ⌝ }
     requires within { ⌜ base + packed-bytes (place + length (now out)) ≤ length (now bytes) ⌝ }
     ensures { λ _. ⌜ now (out .exit) ≡ map (packed-cell (now (bytes .entry)) base) (counting place (length (now (out .entry)))) ⌝ }

@@ -21,7 +21,7 @@ fn fits(flaw: Flaw, tracks: u8, capacity: u32) -> bool
 }
 
 impl FlawTable {
-    pub fn new() -> FlawTable
+    pub(crate) fn new() -> FlawTable
         ensures { λ r. ⌜ table-flaws r ≡ [] ⌝ }
     {
         let none = Flaw {
@@ -35,7 +35,7 @@ impl FlawTable {
         }
     }
 
-    pub fn flaws(&self) -> &[Flaw]
+    pub(crate) fn flaws(&self) -> &[Flaw]
         ensures { λ r. ⌜ now r ≡ table-flaws (now (self .entry)) ⌝ }
     {
         &self.flaws[0..self.count]
@@ -51,7 +51,7 @@ impl FlawTable {
         self.flaws[self.count - 1].end()
     }
 
-    pub fn enter(&mut self, flaw: Flaw, tracks: u8, capacity: u32) -> Result<(), Refusal>
+    pub(crate) fn enter(&mut self, flaw: Flaw, tracks: u8, capacity: u32) -> Result<(), Refusal>
         requires { ⌜ capacity ≤ most-cells ⌝ }
         ensures answer { λ r. ⌜ r ≡ entering (table-flaws (now (self .entry))) tracks capacity flaw ⌝ }
         ensures table { λ r. ⌜ Cases r (λ _. table-flaws (now (self .exit)) ≡ table-flaws (now (self .entry)) ++ flaw ∷ []) (λ _. now (self .exit) ≡ now (self .entry)) ⌝ }

@@ -14,7 +14,7 @@ use crate::table::FlawTable;
 
 impl FlawTable {
     // Whether one of some cells of a track is under a flaw.
-    pub fn touches(&self, at: u8, place: u32, count: usize) -> bool
+    pub(crate) fn touches(&self, at: u8, place: u32, count: usize) -> bool
         requires { ⌜ place + count ≤ most-cells ⌝ }
         ensures clean { λ r. ⌜ (r ≡ false → Clean (table-flaws (now (self .entry))) at place count) ⌝ }
         ensures touched { λ r. ⌜ (r ≡ true → Clean (table-flaws (now (self .entry))) at place count → ⊥) ⌝ }
@@ -30,7 +30,7 @@ impl FlawTable {
     }
 
     // Makes a zero of each cell that is under a flaw.
-    pub fn mask(&self, at: u8, place: u32, cells: &mut [u8])
+    pub(crate) fn mask(&self, at: u8, place: u32, cells: &mut [u8])
         requires { ⌜ place + length (now cells) ≤ most-cells ⌝ }
         ensures { λ _. ⌜ now (cells .exit) ≡ masked (table-flaws (now (self .entry))) at place (now (cells .entry)) ⌝ }
     {
@@ -44,7 +44,7 @@ impl FlawTable {
     }
 
     // The same, into a buffer.
-    pub fn mask_into(&self, at: u8, place: u32, sent: &[u8], out: &mut [u8])
+    pub(crate) fn mask_into(&self, at: u8, place: u32, sent: &[u8], out: &mut [u8])
         requires small { ⌜ place + length (now sent) ≤ most-cells ⌝ }
         requires same { ⌜ length (now out) ≡ length (now sent) ⌝ }
         ensures { λ _. ⌜ now (out .exit) ≡ masked (table-flaws (now (self .entry))) at place (now (sent .entry)) ⌝ }

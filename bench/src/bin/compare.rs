@@ -1,8 +1,9 @@
-//! The records of `crates/codec`, answered by the plain-Rust format.
+//! The records of `crates/compare`, answered by the plain-Rust format and cartridges.
 
 use qic24::code::{
     blank_copy, crc, decode_cells, encode, Content, CopyFault, Decoded, BLOCK, GROUPS, MAX_NUMBER, OPENING, PREAMBLE,
 };
+use qic24::{Cartridge, Flaw, FlawSheet, IntervalStore, PackedStore, ReadCartridge, Refusal};
 use std::fmt::Write as _;
 use std::io::{self, Read, Write};
 
@@ -82,6 +83,56 @@ fn opening_line(r: &mut Records) -> String {
     }
 }
 
+fn show(answer: Result<(), Refusal>) -> String {
+    match answer {
+        Ok(()) => "ok".into(),
+        Err(r) => format!("refused {}", r.code()),
+    }
+}
+
+fn run_on<C: Cartridge>(store: C, r: &mut Records, lines: &mut String) {
+    let mut sheet = FlawSheet::new(store);
+    writeln!(lines, "store {} {}", sheet.tracks(), sheet.capacity()).unwrap();
+    while let Some(b'A' | b'R' | b'L' | b'F') = r.input.get(r.place) {
+        match r.byte() {
+            b'A' => {
+                let track = r.byte() as usize;
+                writeln!(lines, "{}", show(sheet.append(track, r.bytes()))).unwrap();
+            }
+            b'R' => {
+                let (track, place) = (r.byte() as usize, r.number(4) as usize);
+                let mut cells = vec![0xA5u8; (r.number(2) as usize).min(8_192)];
+                let answer = sheet.read(track, place, &mut cells);
+                writeln!(lines, "cells {:016x}", hash_of(&cells)).unwrap();
+                writeln!(lines, "{}", show(answer)).unwrap();
+            }
+            b'L' => match sheet.length(r.byte() as usize) {
+                Ok(cells) => writeln!(lines, "length {cells}").unwrap(),
+                Err(e) => writeln!(lines, "{}", show(Err(e))).unwrap(),
+            },
+            _ => {
+                let (track, place) = (r.byte() as usize, r.number(4) as usize);
+                let length = r.number(2) as usize;
+                writeln!(lines, "{}", show(sheet.enter(Flaw { track, place, length }))).unwrap();
+            }
+        }
+    }
+}
+
+fn store_lines(r: &mut Records, lines: &mut String) {
+    let (kind, tracks, capacity) = (r.byte(), r.byte() as usize, r.number(4) as usize);
+    let memory = vec![0xA5u8; (r.number(4) as usize).min(10_000_000)];
+    if kind == 0 {
+        let (store, answer) = PackedStore::new(memory, tracks, capacity);
+        writeln!(lines, "{}", show(answer)).unwrap();
+        run_on(store, r, lines);
+    } else {
+        let (store, answer) = IntervalStore::new(memory, tracks, capacity);
+        writeln!(lines, "{}", show(answer)).unwrap();
+        run_on(store, r, lines);
+    }
+}
+
 fn main() -> io::Result<()> {
     let mut input = Vec::new();
     io::stdin().read_to_end(&mut input)?;
@@ -93,6 +144,10 @@ fn main() -> io::Result<()> {
             b'E' => copy_line(&mut r),
             b'D' => body_line(&mut r),
             b'O' => opening_line(&mut r),
+            b'S' => {
+                store_lines(&mut r, &mut lines);
+                continue;
+            }
             _ => break,
         };
         writeln!(lines, "{line}").unwrap();

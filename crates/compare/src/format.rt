@@ -1,5 +1,6 @@
-// Runs the format's functions on records from standard input and prints a line for each, to be compared with other software.
-use hash::hash_of;
+// Records of the format.
+use crate::hash::hash_of;
+use crate::records::Records;
 use qic24::Content;
 use qic24::CopyFault;
 use qic24::Item;
@@ -9,15 +10,10 @@ use qic24::crc;
 use qic24::decode;
 use qic24::encode;
 use qic24::find_opening;
-use records::Records;
 use std::error::AnyError;
-use std::io::Read;
-
-mod hash;
-mod records;
 
 // C, a size and so many bytes: their CRC.
-fn check_record(rt: &LibcRuntime, records: &mut Records<'_>) -> Result<(), AnyError> {
+pub(crate) fn check_record(rt: &LibcRuntime, records: &mut Records<'_>) -> Result<(), AnyError> {
     let value = crc(records.bytes());
     println!(rt, "crc {value:04X}")?;
     Ok(())
@@ -44,7 +40,7 @@ fn content_of(records: &mut Records<'_>) -> Content {
 }
 
 // E, a preamble, a track, a number and what the item holds: the length and the hash of its copy.
-fn copy_record(rt: &LibcRuntime, records: &mut Records<'_>) -> Result<(), AnyError> {
+pub(crate) fn copy_record(rt: &LibcRuntime, records: &mut Records<'_>) -> Result<(), AnyError> {
     let preamble = preamble_of(records.number(1));
     let track = records.byte();
     let number = records.number(4);
@@ -62,7 +58,7 @@ fn copy_record(rt: &LibcRuntime, records: &mut Records<'_>) -> Result<(), AnyErr
 }
 
 // D, a track, a size and so many cells: the item, or why there is none.
-fn body_record(rt: &LibcRuntime, records: &mut Records<'_>) -> Result<(), AnyError> {
+pub(crate) fn body_record(rt: &LibcRuntime, records: &mut Records<'_>) -> Result<(), AnyError> {
     let track = records.byte();
     match decode(track, records.bytes()) {
         Ok(item) => show_item(rt, &item),
@@ -100,32 +96,11 @@ fn show_fault(rt: &LibcRuntime, fault: CopyFault) -> Result<(), AnyError> {
 }
 
 // O, a place, a size and so many cells: the first opening from the place on.
-fn opening_record(rt: &LibcRuntime, records: &mut Records<'_>) -> Result<(), AnyError> {
+pub(crate) fn opening_record(rt: &LibcRuntime, records: &mut Records<'_>) -> Result<(), AnyError> {
     let from = records.number(4) as usize;
     match find_opening(records.bytes(), from) {
         Some(place) => println!(rt, "opening {place}")?,
         None => println!(rt, "no opening")?,
     }
     Ok(())
-}
-
-fn run(rt: &LibcRuntime) -> Result<(), AnyError> {
-    let mut input = Vec::new(rt.alloc());
-    let _ = rt.stdin().read_to_end(&mut input)?;
-    let bytes = input.as_slice();
-    let mut records = Records::new(bytes);
-    for _ in 0..bytes.len() {
-        match records.next_kind() {
-            Some(b'C') => check_record(rt, &mut records)?,
-            Some(b'E') => copy_record(rt, &mut records)?,
-            Some(b'D') => body_record(rt, &mut records)?,
-            Some(b'O') => opening_record(rt, &mut records)?,
-            _ => break,
-        }
-    }
-    Ok(())
-}
-
-fn main(rt: LibcRuntime) -> Result<(), AnyError> {
-    rt.report(run(&rt))
 }

@@ -1,7 +1,7 @@
 // Examples of the interval store, over memory that is not clean.
-use crate::interval::IntervalReading;
-use crate::interval::IntervalRecording;
-use crate::interval::IntervalStore;
+use interval::IntervalReading;
+use interval::IntervalRecording;
+use interval::IntervalStore;
 use std::test::*;
 use tape::Reading;
 use tape::Recording;

@@ -18,6 +18,17 @@ impl<'a> Records<'a> {
         Some(self.byte())
     }
 
+    // The kind of the next record if it is one that works on a store, which is then taken.
+    pub(crate) fn next_on_store(&mut self) -> Option<u8> {
+        if self.place >= self.input.len() {
+            return None;
+        }
+        match self.input[self.place] {
+            b'A' | b'R' | b'L' | b'F' => Some(self.byte()),
+            _ => None,
+        }
+    }
+
     pub(crate) fn byte(&mut self) -> u8 {
         if self.place >= self.input.len() {
             return 0;
