@@ -1,12 +1,11 @@
 -- An interval store as a cartridge.
-use mathlib.Core.Path.{_≡_}
 use mathlib.Core.Bool.{Bool, _&&_}
 use Prim.Native.Nat.{ℕ, _*_}
 use lib.Dec.{leb}
 use Rattle.std.specs.Of.Vec.{vec-items}
 use Rattle.tape.specs.Tape.{Tape, Run}
 use Rattle.interval.specs.Intervals.{interval-tape}
-use Rattle.tape.specs.Stores.{within-limits, Unspoiled}
+use Rattle.tape.specs.Stores.{within-limits, Stores}
 use Rattle.interval.specs.declared.interval.IntervalStore.{IntervalStore}
 
 -- sizes within the limits, and memory enough for them
@@ -21,4 +20,4 @@ interval-store-room s = s .capacity
 
 -- what an append leads to: nothing is spoiled
 abbrev pub interval-store-takes : IntervalStore → Run → IntervalStore → Type 0
-interval-store-takes s r e = Unspoiled r (interval-store-tape s) (interval-store-tape e) × (interval-store-room e ≡ interval-store-room s)
+interval-store-takes = Stores interval-store-tape interval-store-room

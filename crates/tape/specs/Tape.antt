@@ -1,9 +1,9 @@
 -- A tape by its cells, and what a medium does with the runs of cells that are sent to it.
 use mathlib.Core.Path.{_≡_}
-use mathlib.Core.Bool.{cond}
 use mathlib.Core.List.{List, [], _∷_, _++_, map}
 use Prim.Native.Nat.{ℕ, _+_, _<_}
-use lib.Dec.{eqb}
+-- a cell, and the cell that a byte stands for
+pub use Rattle.qic24.specs.Cells.{Cell, cell}
 use lib.ListN.{length, getD, replicate}
 use Rattle.std.specs.Iters.{counting}
 
@@ -29,14 +29,6 @@ blank n = replicate n []
 -- the tape with n tracks whose track t has the cells f t
 abbrev pub tape-by : ℕ → (ℕ → List ℕ) → Tape
 tape-by n f = map f (counting 0 n)
-
--- a cell is a one, a flux transition, or a zero
-abbrev pub Cell : ℕ → Type 0
-Cell c = c < 2
-
--- the cell that a byte stands for: any byte but 0 is a one
-abbrev pub cell : ℕ → ℕ
-cell b = cond (eqb b 0) 0 1
 
 -- cells that were sent to a track together
 pub record Run : Type 0 where

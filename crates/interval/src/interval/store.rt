@@ -10,6 +10,7 @@ ghost use Rattle.std.specs.Results.{Cases};
 ghost use Rattle.std.specs.Vec.{made};
 ghost use Rattle.std.specs.Of.Vec.{vec-len, vec-items};
 ghost use Rattle.std.specs.declared.result.Result.the-variants.{Ok, Err};
+ghost use Rattle.tape.specs.Promises.{Reads-back};
 ghost use Rattle.tape.specs.Tape.{track, blank, cell, run};
 ghost use Rattle.interval.specs.Intervals.{gap};
 ghost use Rattle.interval.specs.Marks.{mark-stride};
@@ -41,6 +42,7 @@ impl IntervalStore {
         ensures cells { λ r. ⌜ interval-store-tape (r .0) ≡ cond (interval-fits tracks capacity (vec-len memory)) (blank tracks) [] ⌝ }
         ensures room { λ r. ⌜ interval-store-room (r .0) ≡ cond (interval-fits tracks capacity (vec-len memory)) capacity 0 ⌝ }
         ensures bytes { λ r. ⌜ r .0 .memory ≡ memory ⌝ }
+        ensures back { λ _. ⌜ Reads-back interval-store-tape interval-store-takes ⌝ }
     {
         let lengths = [0; 9];
         let used = [0; 9];

@@ -4,8 +4,9 @@ use native.Mathlib.Omega.{arith}
 use Rattle.std.specs.Of.Vec.{vec-len}
 use Rattle.std.proofs.shelf.Tests.{cond-true, cond-false}
 use Rattle.interval.specs.Marks.{mark-of}
-use Rattle.interval.specs.IntervalStores.{interval-fits}
+use Rattle.interval.specs.IntervalStores.{interval-fits, interval-store-tape, interval-store-takes}
 use Rattle.interval.proofs.IntervalTapes.{interval-blank, no-cells, stands-none, noted-none, fits-parts}
+use Rattle.tape.proofs.Promised.{reads-back}
 use Rattle.interval.proofs.interval.IntervalStore.new.Needs as need
 
 pub ghost-result : need.ghost-result
@@ -59,6 +60,7 @@ returns-then-enough c =
       cells = interval-blank (c .args .memory .items) (c .args .tracks) (c .args .capacity) _ _ (no-cells 9) (no-cells 9) ∙ sym (cond-true _ _ _ e);
       room = sym (cond-true _ _ _ e);
       bytes = refl;
+      back = reads-back interval-store-tape interval-store-takes (λ s r e k. k .0);
     }
 
 pub returns-else-enough : need.returns-else-enough
@@ -69,4 +71,5 @@ returns-else-enough c =
       cells = interval-blank (c .args .memory .items) 0 0 _ _ (no-cells 9) (no-cells 9) ∙ sym (cond-false _ _ _ e);
       room = sym (cond-false _ _ _ e);
       bytes = refl;
+      back = reads-back interval-store-tape interval-store-takes (λ s r e k. k .0);
     }
