@@ -4,7 +4,7 @@
     tests/outside.py OURS BASELINE [SEED [COUNT]]
 
 OURS is the program of crates/compare, BASELINE that of bench/ (bin compare). Each reads the same records; the CRC lines are
-also held to binascii.crc_hqx(data, 0xffff), and copies that are not damaged to an encoder written here.
+also held to binascii.crc_hqx(data, 0xffff), and copies, encoded and decoded, to an encoder written here.
 `--records SEED COUNT` prints the records alone.
 """
 import binascii
@@ -24,6 +24,25 @@ def body(track, number, block):
     check = binascii.crc_hqx(data + address, 0xFFFF).to_bytes(2, "big")
     head = MARK * 512 if block is None else b"".join(CELLS[b] for b in block)
     return head + b"".join(CELLS[b] for b in address + check)
+
+
+def hash_of(data):
+    """FNV-1a of 64 bits."""
+    h = 0xCBF29CE484222325
+    for b in data:
+        h = (h ^ b) * 0x100000001B3 & 0xFFFFFFFFFFFFFFFF
+    return h
+
+
+def copy_line(ones, track, number, block):
+    if not 1 <= number <= 1_048_575:
+        return "no item"
+    cells = b"\x01" * ones + bytes([1, 1, 1, 1, 1, 0, 0, 1, 1, 1]) + body(track, number, block) + b"\x01" * 5
+    return "copy %d %016x" % (len(cells), hash_of(cells))
+
+
+def item_line(number, block):
+    return "mark %d" % number if block is None else "block %d %016x" % (number, hash_of(block))
 
 
 def blocks(rng):
@@ -86,14 +105,13 @@ def records(seed, count):
             track, n = rng.randrange(256), rng.choice((number(rng), number(rng), 0, 1_048_576))
             block = rng.choice((None, blocks(rng)))
             held = b"\x01" if block is None else b"\x00" + block
-            out.append((b"E" + bytes([rng.randrange(3), track]) + n.to_bytes(4, "big") + held, None))
+            kind = rng.randrange(3)
+            expected = copy_line((120, 3_500, 15_000)[kind], track, n, block)
+            out.append((b"E" + bytes([kind, track]) + n.to_bytes(4, "big") + held, expected))
         if i % 10 == 5:
             track, n, block = rng.randrange(256), number(rng), rng.choice((None, blocks(rng)))
             cells = body(track, n, block)
-            if block is None:
-                out.append((b"D" + bytes([track]) + sized(cells), "mark %d" % n))
-            else:
-                out.append((b"D" + bytes([track]) + sized(cells), None))
+            out.append((b"D" + bytes([track]) + sized(cells), item_line(n, block)))
             out.append((b"D" + bytes([rng.randrange(256)]) + sized(cells), None))
             out.append((b"D" + bytes([track]) + sized(damaged(rng, cells, track)), None))
         if i % 10 == 7:

@@ -22,6 +22,10 @@ no-opening p o = at (p - 14) (let w = opens-within f-c-e p o in let l = o .0 in 
     at (suc zero) h e = let z : _≡_ {A = ℕ} 0 1 = ap (λ (x : List ℕ). getD x 8 0) e in omega arith
     at (suc (suc k)) h e = omega arith
 
+pub none-there : First-opening (nibble-cells 0xF ++ (nibble-cells 0xC ++ nibble-cells 0xE)) 0 None
+unfolding nibble-cells nibble-codes bits
+none-there = λ p _ o. no-opening p o
+
 pub none-found : (cs : List ℕ) (r : Option ℕ) → cs ≡ nibble-cells 0xF ++ (nibble-cells 0xC ++ nibble-cells 0xE) → First-opening (map cell cs) 0 r → r ≡ None
 unfolding nibble-cells nibble-codes bits
 none-found cs None e h = refl

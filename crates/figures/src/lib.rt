@@ -1,11 +1,11 @@
-// The bench figures of the station: the starred ones as one proved table.
+// The bench figures of the station that are proved, as one table.
 ghost use mathlib.Core.Path.{_≡_};
 ghost use mathlib.Core.List.{[], _∷_, _++_};
 ghost use Prim.Native.Nat.{_≤_};
 ghost use Rattle.std.specs.declared.option.Option.the-variants.{Some, None};
 ghost use Rattle.qic24.specs.Cells.{nibble-cells};
 ghost use Rattle.qic24.specs.Copy.{address};
-ghost use Rattle.figures.specs.Starred.{the-figures};
+ghost use Rattle.figures.specs.Starred.{the-figures, Figures-of-the-format};
 use qic24::Content;
 use qic24::Item;
 use qic24::code_byte;
@@ -14,7 +14,7 @@ use qic24::find_opening;
 #[cfg(test)]
 mod tests;
 
-// What the format's own functions answer for the starred figures.
+// What the format's own functions answer for these figures.
 #[derive(Clone, Copy)]
 pub struct Starred {
     // the ten cells of the bytes 00, FF and 3C
@@ -46,7 +46,8 @@ fn f_c_e() -> &'static [u8; 15]
 
 // The table.
 pub fn proved_figures() -> Starred
-    ensures { λ r. ⌜ r ≡ the-figures ⌝ }
+    ensures table { λ r. ⌜ r ≡ the-figures ⌝ }
+    ensures format { λ _. ⌜ Figures-of-the-format ⌝ }
 {
     Starred {
         zero: code_byte(0x00),

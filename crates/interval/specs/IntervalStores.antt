@@ -12,9 +12,11 @@ use Rattle.interval.specs.declared.interval.IntervalStore.{IntervalStore}
 abbrev pub interval-fits : ℕ → ℕ → ℕ → Bool
 interval-fits t c have = within-limits t c && leb (t * c) have
 
+-- the cells of a store
 abbrev pub interval-store-tape : IntervalStore → Tape
 interval-store-tape s = interval-tape (vec-items (s .memory)) (s .tracks) (s .capacity) (s .used) (s .zeros)
 
+-- its capacity
 abbrev pub interval-store-room : IntervalStore → ℕ
 interval-store-room s = s .capacity
 

@@ -1,4 +1,4 @@
-// The interval store: a cartridge in memory, a byte for each one.
+// The interval store: a cartridge in memory, by the zeros between its ones.
 mod interval;
 
 pub use interval::IntervalReading;

@@ -46,7 +46,7 @@ preamble-ones Normal = 120
 preamble-ones Elongated = 3500
 preamble-ones Long = 15000
 
--- lists that are long at a numeral are shut: a run of ones, the data of a mark as cells and as the CRC counts it, a body, a copy
+-- a run of n ones. Like the other lists below that are long at a numeral, it is shut
 unfoldable pub ones : ℕ → List ℕ
 ones n = replicate n 1
 

@@ -40,6 +40,7 @@ groups (suc n) c = number-of (take 10 c) ∷ groups n (drop 10 c)
 abbrev pub no-code-at : ℕ → ℕ → Bool
 no-code-at k e = eqb e 257 || (eqb e 256 && leb 512 k)
 
+-- the fault of the group k, with its cells as a number
 abbrev pub fault-at : ℕ → ℕ → GroupFault
 fault-at k g = record { index = k; cells = g }
 
@@ -94,6 +95,7 @@ judged t m bs =
     (cond (eqb (number-in bs) 0) (Err NumberZero)
     (Ok (record { number = number-in bs; content = content-in m bs }))))))
 
+-- the first fault of a group, or else what its bytes say
 abbrev pub by-groups : ℕ → List ℕ → Option GroupFault → Result Numbered CopyFault
 by-groups t gs (Some f) = Err (Group f)
 by-groups t gs None = judged t (marks-in gs) (map byte-of gs)

@@ -1,4 +1,4 @@
-// The fields of a copy that are numbers: preamble lengths and the address.
+// The lengths of preambles.
 ghost use mathlib.Core.Path.{_≡_};
 ghost use Rattle.qic24.specs.Copy.{preamble-ones};
 

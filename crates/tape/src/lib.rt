@@ -1,4 +1,4 @@
-// Cartridges: what one means, the stores, the flaw sheet, and the search for the stretch that holds a number.
+// Cartridges: what one means, the flaw sheet, and the search for the stretch that holds a number.
 mod beside;
 mod cartridge;
 mod flaw;

@@ -1,7 +1,7 @@
 use mathlib.Core.Path.{_≡_, refl, sym, ap, _∙_}
 use lib.Dec.{lit≤}
 use Rattle.qic24.specs.Cells.{bits, nibble-codes, nibble-cells, byte-cells}
-use Rattle.figures.proofs.NoOpening.{none-found}
+use Rattle.figures.proofs.NoOpening.{none-found, none-there}
 use Rattle.figures.proofs.proved_figures.Needs as need
 
 pub returns : need.returns
@@ -12,4 +12,4 @@ returns c =
     let m = c .code-byte-3 .ensures in
     let a = c .address-of .ensures (lit≤ tt) (lit≤ tt) in
     let n = none-found (c .f-c-e .result .now) (c .find-opening .result) (c .f-c-e .ensures) (c .find-opening .ensures .first) in
-    rw (z, o, m, a, n)
+    record { table = rw (z, o, m, a, n); format = (refl, refl, refl, refl, refl, none-there) }

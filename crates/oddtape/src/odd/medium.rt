@@ -44,7 +44,8 @@ fn thin(mut passed: u8, sent: &[u8], out: &mut [u8]) -> u8
 
 impl OddTape {
     pub fn new() -> OddTape
-        ensures { λ r. ⌜ odd-tape r ≡ [] ∷ [] ⌝ }
+        ensures cells { λ r. ⌜ odd-tape r ≡ [] ∷ [] ⌝ }
+        ensures count { λ r. ⌜ r .passed ≡ 0 ⌝ }
     {
         OddTape {
             cells: [0; 512],
