@@ -1,9 +1,7 @@
 // Records of the format.
 use crate::hash::hash_of;
 use crate::records::Records;
-use qic24::{
-    Content, CopyCause, CopyFault, Item, LONGEST, Preamble, crc, decode, encode, find_opening,
-};
+use qic24::{Content, CopyFault, Item, LONGEST, Preamble, crc, decode, encode, find_opening};
 
 // C, a size and so many bytes: their CRC.
 pub(crate) fn check_record(rt: &HostRuntime, records: &mut Records<'_>) -> anyhow::Result<()> {
@@ -71,20 +69,19 @@ fn show_item(rt: &HostRuntime, item: &Item) -> anyhow::Result<()> {
     Ok(())
 }
 
-// The cause alone: the baseline tells no place.
-pub(crate) fn show_fault(rt: &HostRuntime, fault: CopyFault) -> anyhow::Result<()> {
-    match fault.cause {
-        CopyCause::TrackEnds => println!(rt; "track ends")?,
-        CopyCause::Group(group) => {
+fn show_fault(rt: &HostRuntime, fault: CopyFault) -> anyhow::Result<()> {
+    match fault {
+        CopyFault::TrackEnds => println!(rt; "track ends")?,
+        CopyFault::Group(group) => {
             let index = group.index;
             let cells = group.cells;
             println!(rt; "group {index} {cells}")?;
         }
-        CopyCause::Mixed => println!(rt; "mixed")?,
-        CopyCause::Check => println!(rt; "check")?,
-        CopyCause::OtherTrack(track) => println!(rt; "other track {track}")?,
-        CopyCause::Control(nibble) => println!(rt; "control {nibble}")?,
-        CopyCause::NumberZero => println!(rt; "number zero")?,
+        CopyFault::Mixed => println!(rt; "mixed")?,
+        CopyFault::Check => println!(rt; "check")?,
+        CopyFault::OtherTrack(track) => println!(rt; "other track {track}")?,
+        CopyFault::Control(nibble) => println!(rt; "control {nibble}")?,
+        CopyFault::NumberZero => println!(rt; "number zero")?,
     }
     Ok(())
 }

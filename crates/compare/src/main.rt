@@ -1,4 +1,7 @@
 // Runs the format, the cartridges and the deck on records from standard input and prints lines for each, to be compared with other software.
+
+#![tactic(auto)]
+
 use cartridges::store_record;
 use decks::deck_record;
 use format::{body_record, check_record, copy_record, opening_record};

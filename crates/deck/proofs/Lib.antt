@@ -24,3 +24,11 @@ pub mod SentOpenings
 pub mod OnlyPut
 pub mod UnspoiledCalls
 pub mod PutItems
+pub mod Steps
+pub mod Logs
+pub mod KeptLists
+pub mod CallSteps
+pub mod LaterTapes
+pub mod ShelfLists
+pub mod MadeSteps
+pub mod Agreeing

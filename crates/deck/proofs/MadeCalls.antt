@@ -6,7 +6,7 @@ use Rattle.replay.specs.Scan.{stands}
 use Rattle.replay.specs.Seeking.{tape_replay}
 use Rattle.deck.specs.Calls.{DeckCall, AnsweredCall}
 use Rattle.deck.specs.Deck.{item_pending, DeckState, deck_idle, deck_recording}
-use Rattle.deck.specs.CallsMade.{outcome, Made, no_call, call_more}
+use Rattle.deck.specs.CallsMade.{outcome, Made, no_call, call_more, RoomToFinish}
 use Rattle.replay.proofs.Orders.{in_append}
 use Rattle.replay.proofs.Growing.{Extends, extends_refl, extends_trans, grown_extends, extends_length}
 use Rattle.deck.proofs.CallRuns.{Fine, Valid, fine}
@@ -33,3 +33,6 @@ module _ (limit : ℕ) where
       let a = step_fine c m s call v g in
       in_append f (outcome limit c m s call).puts later i (λ j. (a.new f j).0)
       (λ j. omega (arith, made-past m (outcome limit c m s call).state rest later e t then a.valid f j, extends_length c m f.place.on (grown_extends (outcome limit c m s call).runs c m g)))
+
+pub room_to_finish : RoomToFinish
+room_to_finish room tracks ds log c s x d = (made_valid room (blank tracks) deck_idle ds log c (deck_recording s (item_pending x)) d tt).1

@@ -14,3 +14,4 @@ pub mod Taking
 pub mod Recorded
 pub mod Sending
 pub mod Unspoiled
+pub mod Agreement

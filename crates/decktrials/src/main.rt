@@ -1,5 +1,7 @@
 // The deck on examples: its answers, and the cells that it records.
 
+#![tactic(auto)]
+
 mod act;
 mod declining;
 mod laying;

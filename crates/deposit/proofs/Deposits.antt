@@ -10,7 +10,7 @@ use Rattle.deck.specs.Deck.{deck_idle}
 use Rattle.deck.specs.Ending.{is_open, ended}
 use Rattle.deck.specs.State.{deck_state}
 use Rattle.deck.specs.declared.deck.Deck.{Deck}
-use Rattle.deposit.specs.Agreement.{Deposit}
+use Rattle.deck.specs.Agreement.{Deposit}
 use Rattle.deposit.specs.Depositing.{TwoOperators, KeptThenEnd}
 use Rattle.deposit.specs.OperatorCalls.{calls_by}
 use Rattle.deposit.specs.Operating.{Operates}
@@ -20,7 +20,7 @@ use Rattle.deposit.specs.declared.call.Operated.{Operated}
 use Rattle.deposit.specs.declared.replaying.ReplayEnd.{ReplayEnd}
 use Rattle.deposit.specs.declared.replaying.ReplayEnd.TheVariants.{End, Unlocated}
 use Rattle.deposit.specs.declared.replaying.Replayed.{Replayed}
-use Rattle.deposit.proofs.Agreeing.{handed_over}
+use Rattle.deck.proofs.Agreeing.{handed_over}
 
 -- the cartridge of a deck with no recording open
 pub taken_out : {S : Type 0} (d : Deck S) (s : S) → is_open (deck_state d.session) ≡ false → Ok s ≡ ended d → s ≡ d.cartridge

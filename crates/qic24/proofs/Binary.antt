@@ -1,5 +1,5 @@
 -- Cells as numbers and numbers as cells.
-use Rattle.std.proofs.Common.{◌≡◌, ℕ, zero, suc, ◌+◌, ◌*◌, ◌/◌, ◌%◌, ◌^◌, ◌<◌, ◌≤◌, eqb, List, [], ◌∷◌, ◌++◌, map, length, get_or, take, replicate, sym, refl, ap, ◌∙◌, subst, add-zero, add-suc, suc-add, pow-suc, zero-add, add-one, arith, lit<, lit≤}
+use Rattle.std.proofs.Common.{◌≡◌, ℕ, zero, suc, ◌+◌, ◌*◌, ◌/◌, ◌%◌, ◌^◌, ◌<◌, ◌≤◌, Bool, true, false, cond, eqb, List, [], ◌∷◌, ◌++◌, map, length, get_or, take, replicate, sym, refl, ap, ◌∙◌, subst, add-zero, add-suc, suc-add, pow-suc, zero-add, add-one, arith, lit<, lit≤}
 use native.Mathlib.Nat.{min-le_left}
 use Rattle.std.specs.List.{AllByRecursion as All}
 use Rattle.std.proofs.lemmas.List.{length_push, length-append, append-nil, append_assoc, take_more, take_all, length-take-le, map_more, replicate_more, length-replicate, length-map, length-take}
@@ -36,14 +36,14 @@ number_of-bits (suc n) v h =
     number_of-push (bits n (v / 2)) (v % 2) ∙ ap (λ k. k * 2 + v % 2) (number_of-bits n (v / 2) (omega arith)) ∙ omega arith
 
 -- from a number z on
-from_below : (xs : List ℕ) (z n : ℕ) → All Cell xs → z < 2 ^ n → fold shift_in z xs < 2 ^ (n + length xs)
-from_below [] z n h k = subst (λ m. z < 2 ^ m) (sym (add-zero n)) k
-from_below (x ∷ xs) z n (h, hs) k =
+from-below : (xs : List ℕ) (z n : ℕ) → All Cell xs → z < 2 ^ n → fold shift_in z xs < 2 ^ (n + length xs)
+from-below [] z n h k = subst (λ m. z < 2 ^ m) (sym (add-zero n)) k
+from-below (x ∷ xs) z n (h, hs) k =
     let p = pow-suc 2 n in
-    subst (λ m. fold shift_in (z * 2 + x) xs < 2 ^ m) (suc-add n (length xs) ∙ sym (add-suc n (length xs))) (from_below xs (z * 2 + x) (suc n) hs (omega arith))
+    subst (λ m. fold shift_in (z * 2 + x) xs < 2 ^ m) (suc-add n (length xs) ∙ sym (add-suc n (length xs))) (from-below xs (z * 2 + x) (suc n) hs (omega arith))
 
 pub number_of-below : (xs : List ℕ) → All Cell xs → number_of xs < 2 ^ length xs
-number_of-below xs h = subst (λ m. number_of xs < 2 ^ m) (zero-add (length xs)) (from_below xs 0 0 h (lit< tt))
+number_of-below xs h = subst (λ m. number_of xs < 2 ^ m) (zero-add (length xs)) (from-below xs 0 0 h (lit< tt))
 
 bits-number-at : (n : ℕ) (xs : List ℕ) → length xs ≡ n → All Cell xs → bits n (number_of xs) ≡ xs
 unfolding bits

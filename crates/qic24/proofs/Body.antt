@@ -1,16 +1,15 @@
 -- The body of a proper item, as entries of the reading table.
-use Rattle.std.proofs.Common.{◌≡◌, ℕ, zero, suc, ◌+◌, ◌<◌, ◌≤◌, false, List, [], ◌∷◌, ◌++◌, map, length, take, replicate, sym, refl, ap, ◌∙◌, arith, lit<}
+use Rattle.std.proofs.Common.{◌≡◌, ℕ, zero, suc, ◌+◌, ◌*◌, ◌/◌, ◌%◌, ◌^◌, ◌<◌, ◌≤◌, Bool, true, false, cond, ◌&&◌, ◌||◌, eqb, leb, ◌⊎◌, List, [], ◌∷◌, ◌++◌, map, length, get_or, take, drop, replicate, sym, refl, ap, ◌∙◌, subst, inl, inr, ⊎_elim, arith, lit<, lit≤}
 use Rattle.std.specs.List.{AllByRecursion as All}
-use Rattle.std.proofs.lemmas.List.{length-append, length-replicate}
-use Rattle.std.proofs.ByRecursion.{All-weaker}
-use Rattle.qic24.specs.Cells.{joined, mark_cells}
+use Rattle.std.proofs.lemmas.List.{length-append, length-replicate, take_at}
+use Rattle.std.proofs.ByRecursion.{All-append, All-weaker}
+use Rattle.qic24.specs.Cells.{joined, byte_cells, mark_cells}
 use Rattle.qic24.specs.Copy.{Numbered, Proper, ProperContent, body, coded, data_cells, mark_data, counted, mark_counts, address, two_bytes, item_crc}
 use Rattle.qic24.specs.Decode.{marks_in, byte_of, mixed, content_in}
-use Rattle.qic24.specs.Measures.{most_number}
 use Rattle.qic24.specs.declared.item.Content.{Content}
 use Rattle.qic24.specs.declared.item.Content.TheVariants.{Block, Mark}
 use Rattle.qic24.proofs.Register.{crc-below}
-use Rattle.qic24.proofs.Entries.{entry-cells, byte_entry, mark-entry, spelled, spelled_append, group_number, plain_bytes, mark-bytes}
+use Rattle.qic24.proofs.Entries.{entry-cells, byte_entry, mark-entry, spelled, spelled_append, length_spelled, group_number, plain_bytes, mark-bytes}
 
 unfoldable pub mark_entries : List ℕ
 mark_entries = replicate 512 256
@@ -44,7 +43,7 @@ data_spelled : (x : Content) → ProperContent x → data_cells x ≡ spelled (d
 data_spelled (Block bs) h = coded_spelled bs h.1
 data_spelled Mark h = mark_data_spelled
 
-pub tail_small : (t : ℕ) (i : Numbered) → t < 256 → i.number ≤ most_number → All (λ b. b < 256) (tail_bytes t i)
+pub tail_small : (t : ℕ) (i : Numbered) → t < 256 → i.number ≤ 1048575 → All (λ b. b < 256) (tail_bytes t i)
 tail_small t i h k =
     let c = crc-below (counted i.content ++ address t i.number) in
     (h, (omega arith, (omega arith, (omega arith, (omega arith, (omega arith, tt))))))

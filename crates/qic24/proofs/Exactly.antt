@@ -1,23 +1,24 @@
 -- Cells are read as an item exactly when they are that item's.
-use Rattle.std.proofs.Common.{◌≡◌, ℕ, ◌+◌, ◌-◌, ◌*◌, ◌/◌, ◌%◌, ◌<◌, ◌≤◌, false, ◌&&◌, eqb, leb, List, ◌++◌, map, length, get_or, take, drop, None, Ok, sym, ap, ◌∙◌, subst, ⊎_elim, zero-add, arith, lit≤}
+use Rattle.std.proofs.Common.{◌≡◌, ℕ, zero, suc, ◌+◌, ◌-◌, ◌*◌, ◌/◌, ◌%◌, ◌<◌, ◌≤◌, Bool, true, false, cond, not, ◌&&◌, ◌||◌, eqb, leb, ◌⊎◌, List, [], ◌∷◌, ◌++◌, map, length, get_or, take, drop, replicate, Some, None, Ok, Err, Option, Result, sym, refl, ap, ◌∙◌, subst, inl, inr, ⊎_elim, zero-add, arith, lit<, lit≤}
 use Rattle.std.specs.List.{AllByRecursion as All}
-use Rattle.std.proofs.lemmas.List.{append_assoc, length-append, length-map, take_at, take-append-drop, map-append, get_or-append_right, get_or-map, length-take}
+use Rattle.std.proofs.lemmas.List.{append_assoc, length-append, length-map, take_at, take-append-drop, map-append, get_or-append_right, get_or_append_left, get_or-map, length-take}
 use Rattle.std.proofs.ByRecursion.{All-append, All-get_or, All-weaker}
 use Rattle.std.proofs.lemmas.Bool.{cases_lt, ne_eqb, lt-leb, or_from, and_left, and_right}
-use Rattle.qic24.specs.Copy.{Numbered, Proper, body, counted, address, two_bytes, item_crc}
+use Rattle.qic24.specs.Cells.{Cell}
+use Rattle.qic24.specs.Copy.{Numbered, Proper, ProperContent, body, counted, address, two_bytes, item_crc}
 use Rattle.qic24.specs.Crc.{crc}
-use Rattle.qic24.specs.Decode.{decoded, judged, groups, entry, first_fault, no_code_at, marks_in, byte_of, word_at, number_in, content_in}
-use Rattle.qic24.specs.Measures.{body_cells}
+use Rattle.qic24.specs.Decode.{decoded, judged, groups, entry, first_fault, no_code_at, marks_in, byte_of, mixed, word_at, number_in, content_in}
+use Rattle.qic24.specs.declared.fault.CopyFault.{CopyFault}
 use Rattle.qic24.proofs.Register.{crc-below}
 use Rattle.qic24.proofs.Judging.{decoded-codes, judged-item}
 use Rattle.qic24.proofs.Entries.{spelled, length_spelled, groups_spelled, group_number, entry_of_number, codes_to, plain_bytes, marks-append}
 use Rattle.qic24.proofs.Body.{data_entries, tail_bytes, entries, body_spelled, tail_small, length_data, length_entries, data_small, data_counted, marks_of, data_marks, not-mixed, content_back}
 
-pub length-body : (t : ℕ) (i : Numbered) → t < 256 → Proper i → length (body t i) ≡ body_cells
+pub length-body : (t : ℕ) (i : Numbered) → t < 256 → Proper i → length (body t i) ≡ 5180
 length-body t i h p = ap (λ (z : List ℕ). length z) (body_spelled t i h p) ∙ length_spelled (entries t i) ∙ ap (λ n. n * 10) (length_entries t i p.content)
 
 -- an entry that is a byte, or a mark byte in the data, may stand
-pub may_stand : (k e : ℕ) → e < 257 → (512 ≤ k → e < 256) → no_code_at k e ≡ false
+may_stand : (k e : ℕ) → e < 257 → (512 ≤ k → e < 256) → no_code_at k e ≡ false
 may_stand k e h d =
     or_from (eqb e 257) (eqb e 256 && leb 512 k) (ne_eqb e 257 (λ q. omega arith))
     (⊎_elim (λ (l : k < 512). and_right (eqb e 256) (leb 512 k) (lt-leb 512 k l)) (λ (l : 512 ≤ k). and_left (eqb e 256) (leb 512 k) (ne_eqb e 256 (λ q. let s = d l in omega arith))) (cases_lt k 512))
@@ -85,13 +86,13 @@ module _ (t : ℕ) (i : Numbered) (h : t < 256) (p : Proper i) where
       judged-item t (marks_of i.content) bs (not-mixed i.content) (ap crc t516 ∙ sym word) b512 (omega arith) (λ q. omega arith) ∙
       ap (λ m. Ok (record { number = m; content = content_in (marks_of i.content) bs })) num ∙ ap (λ x. Ok (record { number = n; content = x })) (content_back i.content bs t512)
 
-  pub reads_back : (c : List ℕ) → take body_cells c ≡ body t i → decoded t c ≡ Ok i
+  pub reads_back : (c : List ℕ) → take 5180 c ≡ body t i → decoded t c ≡ Ok i
   reads_back c e =
       let es = entries t i in
       let lb = length-body t i h p in
-      let lc : body_cells ≤ length c = let m = length-take body_cells c in let q = ap (λ (z : List ℕ). length z) e in omega arith in
+      let lc : 5180 ≤ length c = let m = length-take 5180 c in let q = ap (λ (z : List ℕ). length z) e in omega arith in
       let le = length_entries t i p.content in
-      let cs : c ≡ spelled es ++ drop body_cells c = sym (take-append-drop body_cells c) ∙ ap (λ (z : List ℕ). z ++ drop body_cells c) (e ∙ body_spelled t i h p) in
-      let g : groups 518 c ≡ map group_number es = ap (groups 518) cs ∙ ap (λ n. groups n (spelled es ++ drop body_cells c)) (sym le) ∙ groups_spelled es (drop body_cells c) in
+      let cs : c ≡ spelled es ++ drop 5180 c = sym (take-append-drop 5180 c) ∙ ap (λ (z : List ℕ). z ++ drop 5180 c) (e ∙ body_spelled t i h p) in
+      let g : groups 518 c ≡ map group_number es = ap (groups 518) cs ∙ ap (λ n. groups n (spelled es ++ drop 5180 c)) (sym le) ∙ groups_spelled es (drop 5180 c) in
       decoded-codes t c lc (ap (first_fault 0) g ∙ no_fault) ∙ ap (λ (z : List ℕ). judged t (marks_in z) (map byte_of z)) g ∙
       ap (λ m. judged t m (map byte_of (map group_number es))) marks-are ∙ ap (judged t (marks_of i.content)) bytes-are ∙ judged_back

@@ -1,11 +1,11 @@
 -- Groups of ten cells, one after the other.
-use Rattle.std.proofs.Common.{◌≡◌, ℕ, zero, suc, ◌+◌, ◌*◌, ◌/◌, ◌%◌, ◌<◌, ◌≤◌, Bool, true, false, cond, ◌&&◌, eqb, ltb, leb, List, [], ◌∷◌, ◌++◌, map, length, get_or, take, drop, Some, Ok, Err, Result, sym, refl, ap, ◌∙◌, le_of_suc-le-suc, not-suc-le-zero, add-one, arith}
+use Rattle.std.proofs.Common.{◌≡◌, ℕ, zero, suc, ◌+◌, ◌*◌, ◌/◌, ◌%◌, ◌<◌, ◌≤◌, Bool, true, false, cond, ◌&&◌, eqb, ltb, leb, List, [], ◌∷◌, ◌++◌, map, length, get_or, take, drop, Some, None, Ok, Err, Result, sym, refl, ap, ◌∙◌, subst, le_of_suc-le-suc, not-suc-le-zero, add-one, arith}
 use mir.Val.{bool_byte}
 use Rattle.std.proofs.lemmas.List.{drop-drop, take-map, drop-map, at_drop_more}
 use Rattle.std.proofs.lemmas.Bool.{cond_both, cond-true, cond-false, and_parts, or_parts, ltb-true, eqb-false}
 use Rattle.qic24.specs.declared.fault.GroupFault.{GroupFault}
 use Rattle.qic24.specs.Cells.{number_of, nibble_codes, cell}
-use Rattle.qic24.specs.Decode.{groups, entry, byte_from, position, first_fault, no_code_at, fault_at, marks_in}
+use Rattle.qic24.specs.Decode.{groups, entry, byte_from, position, first_fault, no_code_at, fault_at, marks_in, byte_of}
 
 pub length-groups : (n : ℕ) (c : List ℕ) → length (groups n c) ≡ n
 unfolding groups
@@ -20,8 +20,8 @@ group_at (suc n) (suc k) c h =
     group_at n k (drop 10 c) (le_of_suc-le-suc h) ∙ ap (λ (z : List ℕ). number_of (take 10 z)) (drop-drop (k * 10) 10 c) ∙ ap (λ m. number_of (take 10 (drop m c))) (omega arith)
 
 -- the same as the code has it, over bytes that stand for cells
-pub group_of-bytes : (n k : ℕ) (bs : List ℕ) → k < n → number_of (map cell (take 10 (drop (k * 10) bs))) ≡ get_or (groups n (map cell bs)) k 0
-group_of-bytes n k bs h =
+pub group_of_bytes : (n k : ℕ) (bs : List ℕ) → k < n → number_of (map cell (take 10 (drop (k * 10) bs))) ≡ get_or (groups n (map cell bs)) k 0
+group_of_bytes n k bs h =
     ap number_of (sym (take-map cell 10 (drop (k * 10) bs)) ∙ ap (take 10) (sym (drop-map cell (k * 10) bs))) ∙ sym (group_at n k (map cell bs) h)
 
 pub entry-small : (g : ℕ) → entry g ≤ 257

@@ -1,45 +1,44 @@
 -- The first cause, case by case.
-use Rattle.std.proofs.Common.{◌≡◌, ℕ, ◌/◌, ◌<◌, ◌≤◌, Bool, true, false, cond, ◌&&◌, ltb, leb, List, map, length, get_or, take, Some, None, Ok, Err, Option, Result, sym, refl, ap, ◌∙◌, ⊎_elim, arith}
+use Rattle.std.proofs.Common.{◌≡◌, ℕ, ◌/◌, ◌<◌, ◌≤◌, Bool, true, false, cond, not, ◌&&◌, eqb, ltb, leb, List, map, length, get_or, take, Some, None, Ok, Err, Option, Result, sym, refl, ap, ◌∙◌, ⊎_elim, arith}
 use Rattle.std.proofs.lemmas.Bool.{lt-ltb, le-ltb, eq-eqb, ne_eqb, cond-true, cond-false, and_parts, leb-true, leb-false, le-leb, cases_eq, cases_Bool, cases_lt}
 use Rattle.qic24.specs.Copy.{Numbered, item_from}
 use Rattle.qic24.specs.declared.item.Content.{Content}
 use Rattle.qic24.specs.Crc.{crc}
-use Rattle.qic24.specs.Decode.{decoded, by_groups, judged, groups, first_fault, byte_of, marks_in, mixed, word_at, number_in, content_in, fault_in, group_fault}
-use Rattle.qic24.specs.Measures.{data_cell, address_cell, control_cell, number_cell, check_cell, body_cells, most_number}
+use Rattle.qic24.specs.Decode.{decoded, by_groups, judged, groups, first_fault, byte_of, marks_in, mixed, word_at, number_in, content_in}
 use Rattle.qic24.specs.declared.fault.CopyFault.{CopyFault}
-use Rattle.qic24.specs.declared.fault.CopyCause.TheVariants.{TrackEnds, Mixed, Check, OtherTrack, Control, NumberZero}
+use Rattle.qic24.specs.declared.fault.CopyFault.TheVariants.{TrackEnds, Group, Mixed, Check, OtherTrack, Control, NumberZero}
 use Rattle.qic24.specs.declared.fault.GroupFault.{GroupFault}
 
-pub decoded-short : (t : ℕ) (c : List ℕ) → length c < body_cells → decoded t c ≡ Err (fault_in (length c) TrackEnds)
-decoded-short t c h = cond-true (ltb (length c) body_cells) (Err (fault_in (length c) TrackEnds)) (by_groups t (groups 518 c) (first_fault 0 (groups 518 c))) (lt-ltb (length c) body_cells h)
+pub decoded-short : (t : ℕ) (c : List ℕ) → length c < 5180 → decoded t c ≡ Err TrackEnds
+decoded-short t c h = cond-true (ltb (length c) 5180) (Err TrackEnds) (by_groups t (groups 518 c) (first_fault 0 (groups 518 c))) (lt-ltb (length c) 5180 h)
 
-long : (t : ℕ) (c : List ℕ) → body_cells ≤ length c → decoded t c ≡ by_groups t (groups 518 c) (first_fault 0 (groups 518 c))
-long t c h = cond-false (ltb (length c) body_cells) (Err (fault_in (length c) TrackEnds)) (by_groups t (groups 518 c) (first_fault 0 (groups 518 c))) (le-ltb (length c) body_cells h)
+long : (t : ℕ) (c : List ℕ) → 5180 ≤ length c → decoded t c ≡ by_groups t (groups 518 c) (first_fault 0 (groups 518 c))
+long t c h = cond-false (ltb (length c) 5180) (Err TrackEnds) (by_groups t (groups 518 c) (first_fault 0 (groups 518 c))) (le-ltb (length c) 5180 h)
 
-pub decoded_fault : (t : ℕ) (c : List ℕ) (f : GroupFault) → body_cells ≤ length c → first_fault 0 (groups 518 c) ≡ Some f → decoded t c ≡ Err (group_fault f)
+pub decoded_fault : (t : ℕ) (c : List ℕ) (f : GroupFault) → 5180 ≤ length c → first_fault 0 (groups 518 c) ≡ Some f → decoded t c ≡ Err (Group f)
 decoded_fault t c f h e = long t c h ∙ ap (by_groups t (groups 518 c)) e
 
-pub decoded-codes : (t : ℕ) (c : List ℕ) → body_cells ≤ length c → first_fault 0 (groups 518 c) ≡ None → decoded t c ≡ judged t (marks_in (groups 518 c)) (map byte_of (groups 518 c))
+pub decoded-codes : (t : ℕ) (c : List ℕ) → 5180 ≤ length c → first_fault 0 (groups 518 c) ≡ None → decoded t c ≡ judged t (marks_in (groups 518 c)) (map byte_of (groups 518 c))
 decoded-codes t c h e = long t c h ∙ ap (by_groups t (groups 518 c)) e
 
 module _ (t m : ℕ) (bs : List ℕ) where
-  pub judged-mixed : mixed m ≡ true → judged t m bs ≡ Err (fault_in data_cell Mixed)
+  pub judged-mixed : mixed m ≡ true → judged t m bs ≡ Err Mixed
   judged-mixed a = rw a
 
   module _ (a : mixed m ≡ false) where
-    pub judged_check : (crc (take 516 bs) ≡ word_at bs 516 → ⊥) → judged t m bs ≡ Err (fault_in check_cell Check)
+    pub judged_check : (crc (take 516 bs) ≡ word_at bs 516 → ⊥) → judged t m bs ≡ Err Check
     judged_check b = let b' = ne_eqb (crc (take 516 bs)) (word_at bs 516) b in rw (a, b')
 
     module _ (b : crc (take 516 bs) ≡ word_at bs 516) where
-      pub judged_other : (get_or bs 512 0 ≡ t → ⊥) → judged t m bs ≡ Err (fault_in address_cell (OtherTrack (get_or bs 512 0)))
+      pub judged_other : (get_or bs 512 0 ≡ t → ⊥) → judged t m bs ≡ Err (OtherTrack (get_or bs 512 0))
       judged_other c = let b' = eq-eqb (crc (take 516 bs)) (word_at bs 516) b in let c' = ne_eqb (get_or bs 512 0) t c in rw (a, b', c')
 
       module _ (c : get_or bs 512 0 ≡ t) where
-        pub judged_control : (get_or bs 513 0 / 16 ≡ 0 → ⊥) → judged t m bs ≡ Err (fault_in control_cell (Control (get_or bs 513 0 / 16)))
+        pub judged_control : (get_or bs 513 0 / 16 ≡ 0 → ⊥) → judged t m bs ≡ Err (Control (get_or bs 513 0 / 16))
         judged_control d = let b' = eq-eqb (crc (take 516 bs)) (word_at bs 516) b in let c' = eq-eqb (get_or bs 512 0) t c in let d' = ne_eqb (get_or bs 513 0 / 16) 0 d in rw (a, b', c', d')
 
         module _ (d : get_or bs 513 0 / 16 ≡ 0) where
-          pub judged-zero : number_in bs ≡ 0 → judged t m bs ≡ Err (fault_in number_cell NumberZero)
+          pub judged-zero : number_in bs ≡ 0 → judged t m bs ≡ Err NumberZero
           judged-zero e =
               let b' = eq-eqb (crc (take 516 bs)) (word_at bs 516) b in let c' = eq-eqb (get_or bs 512 0) t c in let d' = eq-eqb (get_or bs 513 0 / 16) 0 d in
               let e' = eq-eqb (number_in bs) 0 e in rw (a, b', c', d', e')
@@ -49,19 +48,19 @@ module _ (t m : ℕ) (bs : List ℕ) where
               let b' = eq-eqb (crc (take 516 bs)) (word_at bs 516) b in let c' = eq-eqb (get_or bs 512 0) t c in let d' = eq-eqb (get_or bs 513 0 / 16) 0 d in
               let e' = ne_eqb (number_in bs) 0 e in rw (a, b', c', d', e')
 
-pub from_some : (i : Numbered) (n : ℕ) (x : Content) → Some i ≡ item_from n x → (i ≡ record { number = n; content = x }) × (1 ≤ n) × (n ≤ most_number)
-from_some i n x e = by (leb 1 n && leb n most_number) refl e
+pub from_some : (i : Numbered) (n : ℕ) (x : Content) → Some i ≡ item_from n x → (i ≡ record { number = n; content = x }) × (1 ≤ n) × (n ≤ 1048575)
+from_some i n x e = by (leb 1 n && leb n 1048575) refl e
   where
-    by : (b : Bool) → leb 1 n && leb n most_number ≡ b → Some i ≡ cond b (Some (record { number = n; content = x })) None → (i ≡ record { number = n; content = x }) × (1 ≤ n) × (n ≤ most_number)
-    by true p q = let h = and_parts (leb 1 n) (leb n most_number) p in (cc, leb-true 1 n h.0, leb-true n most_number h.1)
+    by : (b : Bool) → leb 1 n && leb n 1048575 ≡ b → Some i ≡ cond b (Some (record { number = n; content = x })) None → (i ≡ record { number = n; content = x }) × (1 ≤ n) × (n ≤ 1048575)
+    by true p q = let h = and_parts (leb 1 n) (leb n 1048575) p in (cc, leb-true 1 n h.0, leb-true n 1048575 h.1)
     by false p q = absurd (let z : ◌≡◌ {A = ℕ} 0 1 = cc in omega arith)
 
-pub from_none : (n : ℕ) (x : Content) → None ≡ item_from n x → n ≤ most_number → n ≡ 0
-from_none n x e h = by (leb 1 n) refl e
+pub from-none : (n : ℕ) (x : Content) → None ≡ item_from n x → n ≤ 1048575 → n ≡ 0
+from-none n x e h = by (leb 1 n) refl e
   where
-    by : (b : Bool) → leb 1 n ≡ b → ◌≡◌ {A = Option Numbered} None (cond (b && leb n most_number) (Some (record { number = n; content = x })) None) → n ≡ 0
+    by : (b : Bool) → leb 1 n ≡ b → ◌≡◌ {A = Option Numbered} None (cond (b && leb n 1048575) (Some (record { number = n; content = x })) None) → n ≡ 0
     by true p q =
-        let r : ◌≡◌ {A = Option Numbered} None (Some (record { number = n; content = x })) = q ∙ ap (λ b. cond b (Some (record { number = n; content = x })) None) (le-leb n most_number h) in
+        let r : ◌≡◌ {A = Option Numbered} None (Some (record { number = n; content = x })) = q ∙ ap (λ b. cond b (Some (record { number = n; content = x })) None) (le-leb n 1048575 h) in
         absurd (let z : ◌≡◌ {A = ℕ} 0 1 = cc in omega arith)
     by false p q = let k = leb-false 1 n p in omega arith
 
@@ -82,28 +81,28 @@ ok_same i j e = cc
 
 pub judged-ok : (t m : ℕ) (bs : List ℕ) (i : Numbered) → judged t m bs ≡ Ok i → JudgedOk t m bs i
 judged-ok t m bs i e =
-    ⊎_elim (λ a. err-not-ok (fault_in data_cell Mixed) i (sym (judged-mixed t m bs a) ∙ e))
+    ⊎_elim (λ a. err-not-ok Mixed i (sym (judged-mixed t m bs a) ∙ e))
     (λ a. ⊎_elim
     (λ b. ⊎_elim
     (λ c. ⊎_elim
-    (λ d. ⊎_elim (λ z. err-not-ok (fault_in number_cell NumberZero) i (sym (judged-zero t m bs a b c d z) ∙ e))
+    (λ d. ⊎_elim (λ z. err-not-ok NumberZero i (sym (judged-zero t m bs a b c d z) ∙ e))
     (λ z. record { kind = a; check = b; on_track = c; control = d; nonzero = z; item = ok_same i (record { number = number_in bs; content = content_in m bs }) (sym e ∙ judged-item t m bs a b c d z) })
     (cases_eq (number_in bs) 0))
-    (λ d. err-not-ok (fault_in control_cell (Control (get_or bs 513 0 / 16))) i (sym (judged_control t m bs a b c d) ∙ e)) (cases_eq (get_or bs 513 0 / 16) 0))
-    (λ c. err-not-ok (fault_in address_cell (OtherTrack (get_or bs 512 0))) i (sym (judged_other t m bs a b c) ∙ e)) (cases_eq (get_or bs 512 0) t))
-    (λ b. err-not-ok (fault_in check_cell Check) i (sym (judged_check t m bs a b) ∙ e)) (cases_eq (crc (take 516 bs)) (word_at bs 516)))
+    (λ d. err-not-ok (Control (get_or bs 513 0 / 16)) i (sym (judged_control t m bs a b c d) ∙ e)) (cases_eq (get_or bs 513 0 / 16) 0))
+    (λ c. err-not-ok (OtherTrack (get_or bs 512 0)) i (sym (judged_other t m bs a b c) ∙ e)) (cases_eq (get_or bs 512 0) t))
+    (λ b. err-not-ok Check i (sym (judged_check t m bs a b) ∙ e)) (cases_eq (crc (take 516 bs)) (word_at bs 516)))
     (cases_Bool (mixed m))
 
 -- what holds where cells are read as an item
 pub record DecodedOk (t : ℕ) (c : List ℕ) (i : Numbered) : Type 0 where
-  pub long : body_cells ≤ length c
+  pub long : 5180 ≤ length c
   pub codes : first_fault 0 (groups 518 c) ≡ None
   pub judging : JudgedOk t (marks_in (groups 518 c)) (map byte_of (groups 518 c)) i
 
 pub decoded-ok : (t : ℕ) (c : List ℕ) (i : Numbered) → decoded t c ≡ Ok i → DecodedOk t c i
 decoded-ok t c i e =
-    ⊎_elim (λ h. err-not-ok (fault_in (length c) TrackEnds) i (sym (decoded-short t c h) ∙ e)) (λ h. by h (first_fault 0 (groups 518 c)) refl) (cases_lt (length c) body_cells)
+    ⊎_elim (λ h. err-not-ok TrackEnds i (sym (decoded-short t c h) ∙ e)) (λ h. by h (first_fault 0 (groups 518 c)) refl) (cases_lt (length c) 5180)
   where
-    by : body_cells ≤ length c → (o : Option GroupFault) → first_fault 0 (groups 518 c) ≡ o → DecodedOk t c i
-    by h (Some f) q = err-not-ok (group_fault f) i (sym (decoded_fault t c f h q) ∙ e)
+    by : 5180 ≤ length c → (o : Option GroupFault) → first_fault 0 (groups 518 c) ≡ o → DecodedOk t c i
+    by h (Some f) q = err-not-ok (Group f) i (sym (decoded_fault t c f h q) ∙ e)
     by h None q = record { long = h; codes = q; judging = judged-ok t (marks_in (groups 518 c)) (map byte_of (groups 518 c)) i (sym (decoded-codes t c h q) ∙ e) }

@@ -10,6 +10,4 @@ pub mod Body
 pub mod Exactly
 pub mod Only
 pub mod Runs
-pub mod Codes
-pub mod Causes
 pub mod Promises

@@ -1,23 +1,22 @@
 -- Cells that are read as an item are that item's.
-use Rattle.std.proofs.Common.{◌≡◌, ℕ, ◌+◌, ◌*◌, ◌/◌, ◌%◌, ◌<◌, ◌≤◌, false, not, ◌&&◌, eqb, leb, List, [], ◌∷◌, ◌++◌, map, length, get_or, take, drop, replicate, None, Ok, sym, refl, ap, ◌∙◌, subst, ⊎_elim, zero-add, arith, lit≤}
+use Rattle.std.proofs.Common.{◌≡◌, ℕ, zero, suc, ◌+◌, ◌-◌, ◌*◌, ◌/◌, ◌%◌, ◌<◌, ◌≤◌, Bool, true, false, cond, not, ◌&&◌, ◌||◌, eqb, leb, ◌⊎◌, List, [], ◌∷◌, ◌++◌, map, length, get_or, take, drop, replicate, None, Ok, Err, sym, refl, ap, ◌∙◌, subst, inl, inr, ⊎_elim, zero-add, arith, lit<, lit≤}
 use Rattle.std.specs.List.{AllByRecursion as All}
-use Rattle.std.proofs.lemmas.List.{append_assoc, length-append, length-map, length-drop, length-take-le, take_at, take-append-drop, map-append, get_or-append_right, get_or-drop}
-use Rattle.std.proofs.ByRecursion.{All-get_or, All-from_get_or, All-take, All-weaker}
-use Rattle.std.proofs.lemmas.Bool.{cases_eq, ne_eqb, eq-eqb, le-leb, or_parts, and_cases, eqb-false, eqb-true, cond-true, cond-false, not-false, both_ways}
+use Rattle.std.proofs.lemmas.List.{append_assoc, length-append, length-map, length-drop, length-take-le, take_at, take-append-drop, map-append, get_or-append_right, get_or-drop, get_or-map}
+use Rattle.std.proofs.ByRecursion.{All-append, All-get_or, All-from_get_or, All-take, All-drop, All-weaker}
+use Rattle.std.proofs.lemmas.Bool.{cases_lt, cases_eq, ne_eqb, eq-eqb, le-leb, or_parts, and_cases, eqb-false, eqb-true, cond-true, cond-false, not-false, both_ways}
 use Rattle.qic24.specs.Cells.{Cell}
 use Rattle.qic24.specs.Copy.{Numbered, Proper, ProperContent, body, counted, mark_counts, address, two_bytes, item_crc}
 use Rattle.qic24.specs.Crc.{crc}
 use Rattle.qic24.specs.Decode.{decoded, groups, entry, first_fault, no_code_at, marks_in, byte_of, mixed, word_at, number_in, content_in}
-use Rattle.qic24.specs.Measures.{body_cells, most_number}
 use Rattle.qic24.specs.declared.item.Content.{Content}
 use Rattle.qic24.specs.declared.item.Content.TheVariants.{Block, Mark}
 use Rattle.qic24.proofs.Groups.{length-groups, code_small}
 use Rattle.qic24.proofs.Judging.{JudgedOk, DecodedOk, decoded-ok}
-use Rattle.qic24.proofs.Entries.{spelled, spelled_groups, codes_from, marks-none, marks-all, marks-append}
+use Rattle.qic24.proofs.Entries.{spelled, spelled_groups, codes-from, marks-none, marks-all, marks-append}
 use Rattle.qic24.proofs.Body.{mark_entries, data_entries, tail_bytes, entries, body_spelled}
 
 -- a code past the data is a byte
-pub byte_there : (k e : ℕ) → no_code_at k e ≡ false → 512 ≤ k → e ≤ 256 → e < 256
+byte_there : (k e : ℕ) → no_code_at k e ≡ false → 512 ≤ k → e ≤ 256 → e < 256
 byte_there k e h l s =
     let p = or_parts (eqb e 257) (eqb e 256 && leb 512 k) h in
     ⊎_elim (λ q. let ne = eqb-false e 256 q in grind arith) (λ q. absurd (both_ways (leb 512 k) q (le-leb 512 k l))) (and_cases (eqb e 256) (leb 512 k) p.1)
@@ -91,19 +90,19 @@ tail_of t D (a ∷ b ∷ c ∷ d ∷ f ∷ g ∷ []) x l m (ha, (hb, (hc, (hd, (
     six_bytes t D x a b c d f g l e hb hc hd hf hg (ap crc (sym s) ∙ k ∙ w) (sym a' ∙ ta) (ap (λ z. z / 16) (sym b') ∙ ctl)
 
 -- groups past the data hold no mark byte
-pub no_marks : (Y : List ℕ) → All (λ g. entry g < 256) Y → marks_in Y ≡ 0
+no_marks : (Y : List ℕ) → All (λ g. entry g < 256) Y → marks_in Y ≡ 0
 no_marks [] h = refl
 no_marks (g ∷ Y) (h, hs) = ap (λ n. n + marks_in Y) (cond-false (eqb (entry g) 256) 1 0 (ne_eqb (entry g) 256 (λ q. omega arith))) ∙ omega (arith, no_marks Y hs)
 
 positive : (n : ℕ) → (n ≡ 0 → ⊥) → 1 ≤ n
 positive n h = grind arith
 
-pub byte_past : (gs : List ℕ) (k : ℕ) → ((k : ℕ) → k < 518 → no_code_at k (entry (get_or gs k 0)) ≡ false) → k < 6 → entry (get_or gs (512 + k) 0) < 256
+byte_past : (gs : List ℕ) (k : ℕ) → ((k : ℕ) → k < 518 → no_code_at k (entry (get_or gs k 0)) ≡ false) → k < 6 → entry (get_or gs (512 + k) 0) < 256
 byte_past gs k code h =
     let l : 512 + k < 518 = omega arith in
     byte_there (512 + k) (entry (get_or gs (512 + k) 0)) (code (512 + k) l) (omega arith) (code_small (512 + k) (get_or gs (512 + k) 0) (code (512 + k) l))
 
-number-most : (bs : List ℕ) → get_or bs 514 0 < 256 → get_or bs 515 0 < 256 → number_in bs ≤ most_number
+number-most : (bs : List ℕ) → get_or bs 514 0 < 256 → get_or bs 515 0 < 256 → number_in bs ≤ 1048575
 number-most bs h k = omega arith
 
 -- the item that X, the groups of the data, and Y, those after it, are read as
@@ -136,14 +135,14 @@ item_of t X Y i lX lY hX hY j =
         ap (λ (z : List ℕ). data_entries x ++ z) (tl ∙ eT) ∙ ap (λ (z : List ℕ). z ++ map entry Y) dat.same ∙ sym (map-append entry X Y) in
         subst (λ (i : Numbered). Proper i × (data_entries i.content ++ tail_bytes t i ≡ map entry (X ++ Y))) (sym j.item) (pr, en)
 
-pub reads_only : (t : ℕ) (c : List ℕ) (i : Numbered) → t < 256 → All Cell c → decoded t c ≡ Ok i → Proper i × (take body_cells c ≡ body t i)
+pub reads_only : (t : ℕ) (c : List ℕ) (i : Numbered) → t < 256 → All Cell c → decoded t c ≡ Ok i → Proper i × (take 5180 c ≡ body t i)
 reads_only t c i h cs e = by (groups 518 c) refl (decoded-ok t c i e)
   where
-    by : (gs : List ℕ) → groups 518 c ≡ gs → DecodedOk t c i → Proper i × (take body_cells c ≡ body t i)
+    by : (gs : List ℕ) → groups 518 c ≡ gs → DecodedOk t c i → Proper i × (take 5180 c ≡ body t i)
     by gs q d =
         let lg : length gs ≡ 518 = ap (λ (z : List ℕ). length z) (sym q) ∙ length-groups 518 c in
         let codes : first_fault 0 gs ≡ None = ap (first_fault 0) (sym q) ∙ d.codes in
-        let code : (k : ℕ) → k < 518 → no_code_at k (entry (get_or gs k 0)) ≡ false = λ k r. ap (λ z. no_code_at z (entry (get_or gs k 0))) (sym (zero-add k)) ∙ codes_from gs 0 codes k (omega arith) in
+        let code : (k : ℕ) → k < 518 → no_code_at k (entry (get_or gs k 0)) ≡ false = λ k r. ap (λ z. no_code_at z (entry (get_or gs k 0))) (sym (zero-add k)) ∙ codes-from gs 0 codes k (omega arith) in
         let small : All (λ g. entry g ≤ 256) gs = All-from_get_or (λ g. entry g ≤ 256) gs 0 (λ k r. code_small k (get_or gs k 0) (code k (omega arith))) in
         let lY : length (drop 512 gs) ≡ 6 = length-drop 512 gs ∙ omega arith in
         let past : All (λ g. entry g < 256) (drop 512 gs) = All-from_get_or (λ g. entry g < 256) (drop 512 gs) 0
@@ -151,5 +150,5 @@ reads_only t c i h cs e = by (groups 518 c) refl (decoded-ok t c i e)
         let g = take-append-drop 512 gs in
         let r = item_of t (take 512 gs) (drop 512 gs) i (length-take-le 512 gs (omega arith)) lY (All-take (λ g. entry g ≤ 256) 512 gs small) past
         (subst (λ (z : List ℕ). JudgedOk t (marks_in z) (map byte_of z) i) (q ∙ sym g) d.judging) in
-        let s : spelled (map entry gs) ≡ take body_cells c = ap (λ (z : List ℕ). spelled (map entry z)) (sym q) ∙ spelled_groups 518 c cs d.long (subst (All (λ g. entry g ≤ 256)) (sym q) small) in
+        let s : spelled (map entry gs) ≡ take 5180 c = ap (λ (z : List ℕ). spelled (map entry z)) (sym q) ∙ spelled_groups 518 c cs d.long (subst (All (λ g. entry g ≤ 256)) (sym q) small) in
         (r.0, sym s ∙ ap (λ (z : List ℕ). spelled (map entry z)) (sym g) ∙ ap spelled (sym r.1) ∙ sym (body_spelled t i h r.0))

@@ -1,5 +1,5 @@
 -- A register of the last fourteen cells shows the opening exactly where one ends.
-use Rattle.std.proofs.Common.{◌≡◌, ℕ, suc, ◌+◌, ◌-◌, ◌*◌, ◌%◌, ◌^◌, ◌<◌, ◌≤◌, List, [], ◌∷◌, ◌++◌, length, get_or, take, drop, sym, refl, ap, ◌∙◌, subst, ⊎_elim, mul_assoc, mul_comm, add-mul, pow-suc, zero-add, arith, lit<}
+use Rattle.std.proofs.Common.{◌≡◌, ℕ, zero, suc, ◌+◌, ◌-◌, ◌*◌, ◌/◌, ◌%◌, ◌^◌, ◌<◌, ◌≤◌, ◌⊎◌, List, [], ◌∷◌, ◌++◌, length, get_or, take, drop, sym, refl, ap, ◌∙◌, subst, inl, inr, ⊎_elim, add_assoc, mul_assoc, mul_comm, add-mul, pow-suc, zero-add, zero-mul, arith, lit<}
 use native.Mathlib.Nat.{pow-le-pow_right}
 use Rattle.std.specs.List.{AllByRecursion as All}
 use Rattle.std.proofs.lemmas.List.{take-append-drop, length-take-le, length-drop, drop-drop, drop-take, take_more, length-take, get_or-drop}
@@ -7,19 +7,19 @@ use Rattle.std.proofs.ByRecursion.{All-take, All-drop, All-get_or}
 use Rattle.std.proofs.lemmas.Bool.{cases_lt}
 use Rattle.std.proofs.lemmas.Nat.{pow_below, mod_low}
 use Rattle.qic24.specs.Cells.{fold, shift_in, number_of, bits, Cell}
-use Rattle.qic24.specs.Opening.{opening, Opens}
+use Rattle.qic24.specs.Opening.{opening, Opens, NoneBetween}
 use Rattle.qic24.proofs.Binary.{fold-append, number_of-below, number_of-push, bits-number}
 
-from_number : (xs : List ℕ) (z : ℕ) → fold shift_in z xs ≡ z * 2 ^ length xs + number_of xs
-from_number [] z = omega arith
-from_number (x ∷ xs) z =
+from-number : (xs : List ℕ) (z : ℕ) → fold shift_in z xs ≡ z * 2 ^ length xs + number_of xs
+from-number [] z = omega arith
+from-number (x ∷ xs) z =
     let w = 2 ^ length xs in
     let p : 2 ^ suc (length xs) ≡ w * 2 = pow-suc 2 (length xs) in
     let d : (z * 2 + x) * w ≡ z * 2 * w + x * w = add-mul (z * 2) x w in
     let m : z * 2 * w ≡ z * 2 ^ suc (length xs) = mul_assoc z 2 w ∙ ap (λ n. z * n) (mul_comm 2 w ∙ sym p) in
     let k : z * 2 ^ suc (length xs) + (x * w + number_of xs) ≡ z * 2 ^ suc (length xs) + number_of (x ∷ xs) =
-    ap (λ n. z * 2 ^ suc (length xs) + n) (ap (λ n. n * w + number_of xs) (sym (zero-add x)) ∙ sym (from_number xs (0 * 2 + x))) in
-    from_number xs (z * 2 + x) ∙ omega (arith, d, m) ∙ k
+    ap (λ n. z * 2 ^ suc (length xs) + n) (ap (λ n. n * w + number_of xs) (sym (zero-add x)) ∙ sym (from-number xs (0 * 2 + x))) in
+    from-number xs (z * 2 + x) ∙ omega (arith, d, m) ∙ k
 
 -- the last fourteen of some cells as a number
 low_part : (xs : List ℕ) (n : ℕ) → All Cell xs → length xs ≡ n → 14 ≤ n → number_of xs % 16384 ≡ number_of (drop (n - 14) xs)
@@ -28,7 +28,7 @@ low_part xs n h l k =
     let zs = drop (n - 14) xs in
     let lz : length zs ≡ 14 = length-drop (n - 14) xs ∙ omega arith in
     let e : number_of xs ≡ number_of ys * 2 ^ 14 + number_of zs =
-    ap number_of (sym (take-append-drop (n - 14) xs)) ∙ fold-append shift_in ys zs 0 ∙ from_number zs (number_of ys) ∙ ap (λ w. number_of ys * 2 ^ w + number_of zs) lz in
+    ap number_of (sym (take-append-drop (n - 14) xs)) ∙ fold-append shift_in ys zs 0 ∙ from-number zs (number_of ys) ∙ ap (λ w. number_of ys * 2 ^ w + number_of zs) lz in
     let b : number_of zs < 2 ^ 14 = subst (λ w. number_of zs < 2 ^ w) lz (number_of-below zs (All-drop Cell (n - 14) xs h)) in
     ap (λ v. v % 16384) e ∙ mod_low (number_of ys) 14 (number_of zs) b
 

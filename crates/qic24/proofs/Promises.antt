@@ -1,10 +1,10 @@
 -- The format's promises, from what stands below.
-use Rattle.std.proofs.Common.{◌≡◌, ℕ, zero, suc, ◌<◌, ◌≤◌, ◌++◌, take, replicate, Ok, Result, sym, refl, ap, ◌∙◌, arith, lit<}
+use Rattle.std.proofs.Common.{◌≡◌, ℕ, zero, suc, ◌<◌, ◌≤◌, ◌↔◌, List, ◌∷◌, ◌++◌, length, take, replicate, Ok, Result, sym, refl, ap, ◌∙◌, arith, lit<}
 use Rattle.std.specs.List.{AllByRecursion as All}
 use Rattle.std.proofs.lemmas.List.{take_at, take_all, length-replicate}
-use Rattle.qic24.specs.Copy.{Numbered, Proper, body, mark_counts}
+use Rattle.qic24.specs.Copy.{Numbered, Proper, body, item_crc, mark_counts}
+use Rattle.qic24.specs.Decode.{decoded}
 use Rattle.qic24.specs.Laws.{ReadsExactly, ReadsBack, SameCellsSameItem, MarkIsNoBlock}
-use Rattle.qic24.specs.Measures.{body_cells, most_number}
 use Rattle.qic24.specs.declared.fault.CopyFault.{CopyFault}
 use Rattle.qic24.specs.declared.item.Content.TheVariants.{Block, Mark}
 use Rattle.qic24.proofs.Exactly as exactly
@@ -14,7 +14,7 @@ pub reads_exactly : ReadsExactly
 reads_exactly t c i h b = (reads_only t c i h b, λ e. exactly.reads_back t i h e.0 c e.1)
 
 pub reads_back : ReadsBack
-reads_back t i rest h p = exactly.reads_back t i h p (body t i ++ rest) (take_at (body t i) rest body_cells (exactly.length-body t i h p))
+reads_back t i rest h p = exactly.reads_back t i h p (body t i ++ rest) (take_at (body t i) rest 5180 (exactly.length-body t i h p))
 
 ok_same : (i j : Numbered) → ◌≡◌ {A = Result Numbered CopyFault} (Ok i) (Ok j) → i ≡ j
 ok_same i j e = cc
@@ -23,14 +23,14 @@ pub same_cells-same_item : SameCellsSameItem
 same_cells-same_item t i j h p q e =
     ok_same i j (sym (exactly.reads_back t i h p (body t i) (take_self t i h p)) ∙ exactly.reads_back t j h q (body t i) (take_self t i h p ∙ e))
   where
-    take_self : (t : ℕ) (i : Numbered) → t < 256 → Proper i → take body_cells (body t i) ≡ body t i
-    take_self t i h p = take_all body_cells (body t i) (omega (arith, exactly.length-body t i h p))
+    take_self : (t : ℕ) (i : Numbered) → t < 256 → Proper i → take 5180 (body t i) ≡ body t i
+    take_self t i h p = take_all 5180 (body t i) (omega (arith, exactly.length-body t i h p))
 
 all_FF : (n : ℕ) → All (λ b. b < 256) (replicate n 0xFF)
 all_FF zero = tt
 all_FF (suc n) = (lit< tt, all_FF n)
 
-proper_FF : (n : ℕ) → 1 ≤ n → n ≤ most_number → Proper (record { number = n; content = Block mark_counts })
+proper_FF : (n : ℕ) → 1 ≤ n → n ≤ 1048575 → Proper (record { number = n; content = Block mark_counts })
 unfolding mark_counts
 proper_FF n h k = record { content = (length-replicate {A = ℕ} 512 0xFF, all_FF 512); least = h; most = k }
 

@@ -1,17 +1,17 @@
 -- No nine ones in a row: nine cells in a row hold a whole nibble, and every nibble has a zero.
-use Rattle.std.proofs.Common.{◌≡◌, ℕ, zero, suc, ◌+◌, ◌-◌, ◌*◌, ◌/◌, ◌<◌, ◌≤◌, not, ◌&&◌, eqb, List, [], ◌∷◌, ◌++◌, length, get_or, take, drop, replicate, sym, refl, ap, ◌∙◌, ⊎_elim, le_of_suc-le-suc, not-suc-le-zero, arith, lit<}
+use Rattle.std.proofs.Common.{◌≡◌, ℕ, zero, suc, ◌+◌, ◌-◌, ◌*◌, ◌/◌, ◌%◌, ◌<◌, ◌≤◌, Bool, true, false, not, ◌&&◌, eqb, ◌⊎◌, List, [], ◌∷◌, ◌++◌, map, length, get_or, take, drop, replicate, sym, refl, ap, ◌∙◌, subst, inl, inr, ⊎_elim, le_of_suc-le-suc, not-suc-le-zero, arith, lit<, lit≤}
 use Rattle.std.specs.List.{AllByRecursion as All}
-use Rattle.std.proofs.lemmas.List.{append_assoc, length-take, length-take-le, length-drop, take-append-drop, get_or_append_left, get_or-append_right, get_or-take, get_or-drop, get_or-replicate, ext_get_or}
+use Rattle.std.proofs.lemmas.List.{append_assoc, length-append, length-take, length-take-le, length-drop, take-append-drop, get_or_append_left, get_or-append_right, get_or-take, get_or-drop, get_or-replicate, ext_get_or}
 use Rattle.std.proofs.ByRecursion.{All-append, All-get_or, All-weaker}
 use Rattle.std.proofs.lemmas.Bool.{and_parts, not-true, eqb-false, cases_lt}
 use Rattle.qic24.specs.Cells.{joined, bits, number_of, nibble_codes, nibble_cells, byte_cells, mark_cells}
 use Rattle.qic24.specs.Copy.{Numbered, Proper, body}
-use Rattle.qic24.specs.Measures.{body_cells}
 use Rattle.qic24.specs.Opening.{opening, Opens, SoundAt}
-use Rattle.qic24.proofs.Tables.{at_below}
+use Rattle.qic24.proofs.Tables.{below, at_below}
 use Rattle.qic24.proofs.Entries.{entry-cells, length-entry, spelled}
 use Rattle.qic24.proofs.Body.{data_entries, tail_bytes, entries, body_spelled, length_entries, data_small, tail_small}
 use Rattle.qic24.proofs.Exactly.{length-body}
+use Rattle.qic24.proofs.Openings.{opens_within}
 
 -- a nibble's cells: five, and not all ones
 abbrev Nibble : List ℕ → Type 0
@@ -82,7 +82,7 @@ no_nine_in_body : (t : ℕ) (i : Numbered) → t < 256 → Proper i → (k : ℕ
 no_nine_in_body t i h p k l one =
     let es = entries t i in
     let b : body t i ≡ joined (halves es) = body_spelled t i h p ∙ spelled_halves es in
-    let lb : length (joined (halves es)) ≡ body_cells = ap (λ (z : List ℕ). length z) (sym b) ∙ length-body t i h p in
+    let lb : length (joined (halves es)) ≡ 5180 = ap (λ (z : List ℕ). length z) (sym b) ∙ length-body t i h p in
     let lh : length (halves es) ≡ 1036 = length_halves es ∙ ap (λ n. n * 2) (length_entries t i p.content) in
     no_nine (halves es) (nibbles es (entries_small t i h p)) (omega arith) k (omega arith) (λ j q. ap (λ (z : List ℕ). get_or (1 ∷ 1 ∷ 1 ∷ z) (k + j) 0) (sym b) ∙ one j q)
 
@@ -115,12 +115,12 @@ on_track t c p i h s n l =
     sym (ap (λ m. get_or c m 0) f ∙ opening-cell c p s.opens (11 + n) (omega arith) ∙ get_or-append_right (1 ∷ 1 ∷ 1 ∷ 1 ∷ 1 ∷ 1 ∷ 1 ∷ 1 ∷ 1 ∷ 0 ∷ 0 ∷ []) (1 ∷ 1 ∷ 1 ∷ []) 11 (11 + n) 0 refl (omega arith) ∙
     ap (λ m. get_or (1 ∷ 1 ∷ 1 ∷ []) m 0) g ∙ get_or-replicate 3 n 1 0 q))
     (λ (q : 3 ≤ n).
-    let w : n - 3 < body_cells = omega arith in
-    get_or-append_right (1 ∷ 1 ∷ 1 ∷ []) b 3 n 0 refl q ∙ ap (λ (z : List ℕ). get_or z (n - 3) 0) (sym s.reads) ∙ get_or-take body_cells (drop p c) (n - 3) 0 w ∙ get_or-drop p c (n - 3) 0 ∙
+    let w : n - 3 < 5180 = omega arith in
+    get_or-append_right (1 ∷ 1 ∷ 1 ∷ []) b 3 n 0 refl q ∙ ap (λ (z : List ℕ). get_or z (n - 3) 0) (sym s.reads) ∙ get_or-take 5180 (drop p c) (n - 3) 0 w ∙ get_or-drop p c (n - 3) 0 ∙
     ap (λ m. get_or c m 0) (omega arith))
     (cases_lt n 3)
 
-pub no_opening-inside : (t : ℕ) (c : List ℕ) (p : ℕ) (i : Numbered) → t < 256 → SoundAt t c p i → (q : ℕ) → p < q → q ≤ p + body_cells → Opens c q → ⊥
+pub no_opening-inside : (t : ℕ) (c : List ℕ) (p : ℕ) (i : Numbered) → t < 256 → SoundAt t c p i → (q : ℕ) → p < q → q ≤ p + 5180 → Opens c q → ⊥
 no_opening-inside t c p i h s q l r o =
     let k = s.opens.0 in
     let w = o.0 in

@@ -1,9 +1,8 @@
 -- The recorded copy of an item: preamble, marker, data, address, CRC and postamble.
-use Rattle.std.specs.Prelude.{◌≡◌, ℕ, ◌/◌, ◌%◌, ◌<◌, ◌≤◌, cond, ◌&&◌, List, [], ◌∷◌, ◌++◌, map, length, replicate, Some, None, Option, nat_le}
+use Rattle.std.specs.Prelude.{◌≡◌, ℕ, ◌+◌, ◌*◌, ◌/◌, ◌%◌, ◌<◌, ◌≤◌, cond, ◌&&◌, List, [], ◌∷◌, ◌++◌, map, length, replicate, Some, None, Option, nat_le}
 use Rattle.std.specs.List.{AllByRecursion as All}
-use Rattle.qic24.specs.Cells.{joined, byte_cells, mark_cells}
+use Rattle.qic24.specs.Cells.{joined, bits, byte_cells, mark_cells}
 use Rattle.qic24.specs.Crc.{crc}
-use Rattle.qic24.specs.Measures.{most_number}
 use Rattle.qic24.specs.declared.item.Content.{Content}
 use Rattle.qic24.specs.declared.item.Content.TheVariants.{Block, Mark}
 use Rattle.qic24.specs.declared.item.Item.{Item}
@@ -24,7 +23,7 @@ ProperContent Mark = Unit {0}
 pub record Proper (i : Numbered) : Type 0 where
   pub content : ProperContent i.content
   pub least : 1 ≤ i.number
-  pub most : i.number ≤ most_number
+  pub most : i.number ≤ 1048575
 
 -- what an item of the program holds
 abbrev pub held : Item → Numbered
@@ -32,7 +31,7 @@ held i = record { number = i.number; content = i.content }
 
 -- the item under a number, if an address can hold the number and it is not 0
 abbrev pub item_from : ℕ → Content → Option Numbered
-item_from n x = cond (nat_le 1 n && nat_le n most_number) (Some (record { number = n; content = x })) None
+item_from n x = cond (nat_le 1 n && nat_le n 1048575) (Some (record { number = n; content = x })) None
 
 -- how many ones the preamble has
 abbrev pub preamble_ones : Preamble → ℕ

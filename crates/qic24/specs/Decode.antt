@@ -3,12 +3,10 @@ use Rattle.std.specs.Prelude.{◌≡◌, ℕ, zero, suc, ◌+◌, ◌*◌, ◌/�
 use Rattle.qic24.specs.Cells.{number_of, nibble_codes}
 use Rattle.qic24.specs.Copy.{Numbered}
 use Rattle.qic24.specs.Crc.{crc}
-use Rattle.qic24.specs.Measures.{group_cell, data_cell, address_cell, control_cell, number_cell, check_cell, body_cells}
 use Rattle.qic24.specs.declared.item.Content.{Content}
 use Rattle.qic24.specs.declared.item.Content.TheVariants.{Block, Mark}
 use Rattle.qic24.specs.declared.fault.CopyFault.{CopyFault}
-use Rattle.qic24.specs.declared.fault.CopyCause.{CopyCause}
-use Rattle.qic24.specs.declared.fault.CopyCause.TheVariants.{TrackEnds, Group, Mixed, Check, OtherTrack, Control, NumberZero}
+use Rattle.qic24.specs.declared.fault.CopyFault.TheVariants.{TrackEnds, Group, Mixed, Check, OtherTrack, Control, NumberZero}
 use Rattle.qic24.specs.declared.fault.GroupFault.{GroupFault}
 
 -- where a number first stands in a list, or the list's length
@@ -78,29 +76,21 @@ abbrev pub mapped_ok : {A B E : Type 0} → (A → B) → Result A E → Result 
 mapped_ok f (Ok x) = Ok (f x)
 mapped_ok f (Err e) = Err e
 
--- a cause, and the cell where what is at fault begins
-abbrev pub fault_in : ℕ → CopyCause → CopyFault
-fault_in p x = record { place = p; cause = x }
-
--- the fault of a group, as the copy's
-abbrev pub group_fault : GroupFault → CopyFault
-group_fault f = fault_in (group_cell f.index) (Group f)
-
 -- 518 bytes, m of them mark bytes: data, address and CRC
 abbrev pub judged : ℕ → ℕ → List ℕ → Result Numbered CopyFault
 judged t m bs =
-    cond (mixed m) (Err (fault_in data_cell Mixed))
-    (cond (not (crc (take 516 bs) == word_at bs 516)) (Err (fault_in check_cell Check))
-    (cond (not (slice_index bs 512 == t)) (Err (fault_in address_cell (OtherTrack (slice_index bs 512))))
-    (cond (not (slice_index bs 513 / 16 == 0)) (Err (fault_in control_cell (Control (slice_index bs 513 / 16))))
-    (cond (number_in bs == 0) (Err (fault_in number_cell NumberZero))
+    cond (mixed m) (Err Mixed)
+    (cond (not (crc (take 516 bs) == word_at bs 516)) (Err Check)
+    (cond (not (slice_index bs 512 == t)) (Err (OtherTrack (slice_index bs 512)))
+    (cond (not (slice_index bs 513 / 16 == 0)) (Err (Control (slice_index bs 513 / 16)))
+    (cond (number_in bs == 0) (Err NumberZero)
     (Ok (record { number = number_in bs; content = content_in m bs }))))))
 
 -- the first fault of a group, or else what its bytes say
 abbrev pub by_groups : ℕ → List ℕ → Option GroupFault → Result Numbered CopyFault
-by_groups t gs (Some f) = Err (group_fault f)
+by_groups t gs (Some f) = Err (Group f)
 by_groups t gs None = judged t (marks_in gs) (map byte_of gs)
 
 -- the cells after an opening on the track t
 abbrev pub decoded : ℕ → List ℕ → Result Numbered CopyFault
-decoded t c = cond (nat_lt (length c) body_cells) (Err (fault_in (length c) TrackEnds)) (by_groups t (groups 518 c) (first_fault 0 (groups 518 c)))
+decoded t c = cond (nat_lt (length c) 5180) (Err TrackEnds) (by_groups t (groups 518 c) (first_fault 0 (groups 518 c)))

@@ -4,13 +4,12 @@ use Rattle.std.specs.List.{AllByRecursion as All}
 use Rattle.qic24.specs.Cells.{Cell}
 use Rattle.qic24.specs.Copy.{Numbered, Proper, body, item_crc, mark_counts}
 use Rattle.qic24.specs.Decode.{decoded}
-use Rattle.qic24.specs.Measures.{body_cells, most_number}
 use Rattle.qic24.specs.Opening.{Opens, SoundAt}
 use Rattle.qic24.specs.declared.item.Content.TheVariants.{Block, Mark}
 
 -- cells are read as an item exactly when the item is a proper one and they begin with its cells
 abbrev pub ReadsExactly : Type 0
-ReadsExactly = (t : ℕ) (c : List ℕ) (i : Numbered) → t < 256 → All Cell c → (decoded t c ≡ Ok i) ↔ (Proper i × (take body_cells c ≡ body t i))
+ReadsExactly = (t : ℕ) (c : List ℕ) (i : Numbered) → t < 256 → All Cell c → (decoded t c ≡ Ok i) ↔ (Proper i × (take 5180 c ≡ body t i))
 
 -- cells decode to what was encoded, whatever follows them
 abbrev pub ReadsBack : Type 0
@@ -26,11 +25,11 @@ NoNineOnes = (t : ℕ) (i : Numbered) → t < 256 → Proper i → (k : ℕ) →
 
 -- no opening has its place inside a sound copy, or right at its end
 abbrev pub NoOpeningInside : Type 0
-NoOpeningInside = (t : ℕ) (c : List ℕ) (p : ℕ) (i : Numbered) → t < 256 → SoundAt t c p i → (q : ℕ) → p < q → q ≤ p + body_cells → Opens c q → ⊥
+NoOpeningInside = (t : ℕ) (c : List ℕ) (p : ℕ) (i : Numbered) → t < 256 → SoundAt t c p i → (q : ℕ) → p < q → q ≤ p + 5180 → Opens c q → ⊥
 
 -- a mark and a block of 512 bytes FF under one number have the same CRC and different cells
 abbrev pub MarkIsNoBlock : Type 0
 MarkIsNoBlock =
-    (t n : ℕ) → t < 256 → 1 ≤ n → n ≤ most_number →
+    (t n : ℕ) → t < 256 → 1 ≤ n → n ≤ 1048575 →
     (item_crc t (record { number = n; content = Mark }) ≡ item_crc t (record { number = n; content = Block mark_counts })) ×
     (body t (record { number = n; content = Mark }) ≢ body t (record { number = n; content = Block mark_counts }))

@@ -6,5 +6,4 @@ pub mod Crc
 pub mod Copy
 pub mod Decode
 pub mod Opening
-pub mod Causes
 pub mod Laws

@@ -1,7 +1,6 @@
 -- Where copies begin: the opening of a copy, and a sound copy on a track.
 use Rattle.std.specs.Prelude.{◌≡◌, ℕ, ◌-◌, ◌<◌, ◌≤◌, List, [], ◌∷◌, take, drop, Option, MatchOption}
 use Rattle.qic24.specs.Copy.{Numbered, Proper, body}
-use Rattle.qic24.specs.Measures.{body_cells}
 
 -- nine ones, then 00111
 abbrev pub opening : List ℕ
@@ -23,4 +22,4 @@ FirstOpening c from r = MatchOption r ((q : ℕ) → from ≤ q → Opens c q �
 pub record SoundAt (t : ℕ) (c : List ℕ) (p : ℕ) (i : Numbered) : Type 0 where
   pub opens : Opens c p
   pub proper : Proper i
-  pub reads : take body_cells (drop p c) ≡ body t i
+  pub reads : take 5180 (drop p c) ≡ body t i

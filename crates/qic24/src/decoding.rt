@@ -1,17 +1,15 @@
 // From the cells after an opening to the item, or to the first cause why they are none.
-ghost use Rattle.std.specs.Prelude.{◌≡◌, ◌+◌, ◌*◌, ◌<◌, ◌≤◌, map, length, if◌then◌else◌, Some, None, Ok, Err, MatchResult, nat_eq};
-ghost use Rattle.qic24.specs.Causes.{CausesExactly};
+ghost use Rattle.std.specs.Prelude.{◌≡◌, ℕ, ◌+◌, ◌*◌, ◌<◌, ◌≤◌, List, map, length, if◌then◌else◌, Some, None, Ok, Err, MatchResult, nat_eq};
 ghost use Rattle.qic24.specs.Cells.{cell, number_of};
 ghost use Rattle.qic24.specs.Copy.{held};
-ghost use Rattle.qic24.specs.Decode.{entry, groups, no_code_at, fault_at, first_fault, GroupsAre, word_at, number_in, content_in, mixed, mapped_ok, fault_in, judged, decoded};
+ghost use Rattle.qic24.specs.Decode.{entry, groups, no_code_at, fault_at, first_fault, marks_in, byte_of, GroupsAre, word_at, number_in, content_in, mixed, mapped_ok, judged, decoded};
 ghost use Rattle.qic24.specs.Laws.{ReadsExactly, ReadsBack};
-ghost use Rattle.qic24.specs.Measures.{body_cells, most_number};
 
 use crate::crc16::crc;
-use crate::fault::{CopyCause, CopyFault, GroupFault};
+use crate::fault::{CopyFault, GroupFault};
 use crate::item::{Content, Item};
+use crate::reading;
 use crate::sense::cell_of;
-use crate::{places, reading};
 
 // The groups of data, address and CRC.
 const GROUPS: usize = 518;
@@ -78,7 +76,7 @@ struct Groups {
 
 // Reads the 518 groups, up to the first that is no code where it stands.
 fn read_groups(cells: &[u8]) -> Result<Groups, GroupFault>
-    requires { body_cells ≤ length cells.now }
+    requires { 5180 ≤ length cells.now }
     ensures { MatchResult result (λ g. GroupsAre (groups 518 (map cell cells.now)) g.bytes g.marks) (λ f. first_fault 0 (groups 518 (map cell cells.now)) ≡ Some f) }
 {
     let mut bytes = [0; GROUPS];
@@ -107,7 +105,7 @@ fn content(groups: &Groups) -> Content
 // The number in the address, of 20 bits.
 fn number(bytes: &[u8; 518]) -> u32
     ensures value { result ≡ number_in bytes.now }
-    ensures small { result ≤ most_number }
+    ensures small { result ≤ 1048575 }
 {
     u32::from(bytes[513] % 16) * 0x1_0000 + u32::from(bytes[514]) * 0x100 + u32::from(bytes[515])
 }
@@ -126,34 +124,27 @@ fn is_mixed(marks: u16) -> bool
     marks != 0 && usize::from(marks) != DATA
 }
 
-// A cause, at the cell where what is at fault begins.
-fn fault_in(place: u32, cause: CopyCause) -> CopyFault
-    ensures { result ≡ fault_in place cause }
-{
-    CopyFault { place, cause }
-}
-
 // The item of 518 bytes, or the first cause after those of the groups.
 fn judge(track: u8, groups: &Groups) -> Result<Item, CopyFault>
     ensures { mapped_ok held result ≡ judged track groups.now.marks groups.now.bytes }
 {
     let bytes = &groups.bytes;
     if is_mixed(groups.marks) {
-        return Err(fault_in(places::DATA, CopyCause::Mixed));
+        return Err(CopyFault::Mixed);
     }
     if crc(&bytes[0..516]) != recorded_check(bytes) {
-        return Err(fault_in(places::CHECK, CopyCause::Check));
+        return Err(CopyFault::Check);
     }
     if bytes[512] != track {
-        return Err(fault_in(places::ADDRESS, CopyCause::OtherTrack(bytes[512])));
+        return Err(CopyFault::OtherTrack(bytes[512]));
     }
     let control = bytes[513] / 16;
     if control != 0 {
-        return Err(fault_in(places::CONTROL, CopyCause::Control(control)));
+        return Err(CopyFault::Control(control));
     }
     match Item::new(number(bytes), content(groups)) {
         Some(item) => Ok(item),
-        None => Err(fault_in(places::NUMBER, CopyCause::NumberZero)),
+        None => Err(CopyFault::NumberZero),
     }
 }
 
@@ -161,11 +152,10 @@ fn judge(track: u8, groups: &Groups) -> Result<Item, CopyFault>
 pub fn decode(track: u8, cells: &[u8]) -> Result<Item, CopyFault>
     ensures answer { mapped_ok held result ≡ decoded track (map cell cells.now) }
     ensures exactly { ReadsExactly }
-    ensures causes { CausesExactly }
     ensures back { ReadsBack }
 {
     if cells.len() < BODY {
-        return Err(fault_in(cells.len() as u32, CopyCause::TrackEnds));
+        return Err(CopyFault::TrackEnds);
     }
     let groups = read_groups(cells)?;
     judge(track, &groups)

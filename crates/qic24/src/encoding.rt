@@ -1,10 +1,10 @@
 // From an item to the cells of its copy.
-ghost use Rattle.std.specs.Prelude.{◌≡◌, ◌+◌, ◌*◌, ◌<◌, ◌≤◌, ◌++◌, length, drop};
+ghost use Rattle.std.specs.Prelude.{◌≡◌, ℕ, ◌+◌, ◌*◌, ◌<◌, ◌≤◌, List, [], ◌∷◌, ◌++◌, length, drop, replicate};
 ghost use Rattle.qic24.specs.Buffers.{overlaid};
-ghost use Rattle.qic24.specs.Cells.{byte_cells, nibble_cells, nibble_cell};
-ghost use Rattle.qic24.specs.Copy.{ones, coded, data_cells, mark_data, copy, held, preamble_ones, item_crc, two_bytes, body};
+ghost use Rattle.qic24.specs.Cells.{byte_cells, mark_cells, nibble_cells, nibble_cell};
+ghost use Rattle.qic24.specs.Copy.{ones, coded, data_cells, mark_data, counted, copy, held, preamble_ones, item_crc, two_bytes, body};
+ghost use Rattle.qic24.specs.Crc.{crc};
 ghost use Rattle.qic24.specs.Laws.{SameCellsSameItem, MarkIsNoBlock};
-ghost use Rattle.qic24.specs.Measures.{body_cells};
 ghost use Rattle.qic24.specs.Tables.{Table};
 
 use crate::crc16;
@@ -123,9 +123,9 @@ fn check_bytes(track: u8, item: &Item) -> [u8; 2]
 
 // The 5,180 cells of an item on a track: data, address and CRC.
 fn put_body(out: &mut [u8], at: usize, track: u8, item: &Item) -> usize
-    requires { at + body_cells ≤ length out.old }
-    ensures place { result ≡ at + body_cells }
-    ensures size { length (body track (held item.now)) ≡ body_cells }
+    requires { at + 5180 ≤ length out.old }
+    ensures place { result ≡ at + 5180 }
+    ensures size { length (body track (held item.now)) ≡ 5180 }
     ensures buffer { out.new ≡ overlaid out.old at (body track (held item.now)) }
 {
     let address = put_data(out, at, item.content());

@@ -1,6 +1,6 @@
-// Why the cells after an opening are no sound copy, layer by layer: each fault holds its own place.
+// Why the cells after an opening are no sound copy, layer by layer.
 ghost use Rattle.std.specs.Prelude.{◌≡◌};
-ghost use Rattle.qic24.specs.Decode.{group_fault};
+ghost use Rattle.qic24.specs.declared.fault.CopyFault.TheVariants.{Group};
 
 // A group of ten cells that is no code where it stands.
 #[derive(Clone, Copy, PartialEq, Eq, Debug)]
@@ -13,7 +13,7 @@ pub struct GroupFault {
 
 // The first cause that applies to a copy, in this order.
 #[derive(Clone, Copy, PartialEq, Eq, Debug)]
-pub enum CopyCause {
+pub enum CopyFault {
     // the track ends inside it
     TrackEnds,
     // a group is no code; the mark byte is one in the data only
@@ -30,22 +30,10 @@ pub enum CopyCause {
     NumberZero,
 }
 
-// Why the cells after an opening are no sound copy, and where in the copy.
-#[derive(Clone, Copy, PartialEq, Eq, Debug)]
-pub struct CopyFault {
-    // the cell of the copy, from 0, where what is at fault begins
-    pub place: u32,
-    pub cause: CopyCause,
-}
-
-// A group fault is the copy's from the group's first cell on.
 impl From<GroupFault> for CopyFault {
-    ghost from_gives = { λ f r. r ≡ group_fault f };
+    ghost from_gives = { λ f r. r ≡ Group f };
 
     fn from(fault: GroupFault) -> CopyFault {
-        CopyFault {
-            place: u32::from(fault.index) * 10,
-            cause: CopyCause::Group(fault),
-        }
+        CopyFault::Group(fault)
     }
 }

@@ -1,6 +1,5 @@
 // What is recorded: a block or a file mark, under a number.
 ghost use Rattle.std.specs.Prelude.{◌≤◌};
-ghost use Rattle.qic24.specs.Measures.{most_number};
 
 mod methods;
 
@@ -15,5 +14,5 @@ pub enum Content {
 pub struct Item {
     number: u32,
     content: Content,
-    ghost numbered: { (1 ≤ number) × (number ≤ most_number) },
+    ghost numbered: { (1 ≤ number) × (number ≤ 1048575) },
 }

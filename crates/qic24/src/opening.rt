@@ -1,5 +1,5 @@
 // Finding where copies begin.
-ghost use Rattle.std.specs.Prelude.{◌≤◌, map, length, IfSome};
+ghost use Rattle.std.specs.Prelude.{ℕ, ◌≤◌, map, length, IfSome};
 ghost use Rattle.qic24.specs.Cells.{cell};
 ghost use Rattle.qic24.specs.Laws.{NoNineOnes, NoOpeningInside};
 ghost use Rattle.qic24.specs.Opening.{FirstOpening};

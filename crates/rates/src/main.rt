@@ -1,13 +1,14 @@
-// How fast the format, the stores and the deck are: the names go to standard output, the rates to standard error.
+// How fast the format and the stores are: the names go to standard output, the rates to standard error.
+
+#![tactic(auto)]
+
 use clock::Watch;
-use decks::{interval_deck_rates, packed_deck_rates};
 use interval::IntervalStore;
 use packed::PackedStore;
 use qic24::{BODY, Content, Item, LONGEST, Preamble, decode, encode};
 use tape::{Reading, Recording};
 
 mod clock;
-mod decks;
 
 // The cells of a copy with a normal preamble, and those before its body.
 const COPY: usize = 5_315;
@@ -155,9 +156,7 @@ fn run(rt: &HostRuntime) -> anyhow::Result<()> {
     let mut cells = [0; LONGEST];
     format_rates(rt, &mut cells)?;
     packed_rates(rt, &cells[0..COPY])?;
-    interval_rates(rt, &cells[0..COPY])?;
-    packed_deck_rates(rt)?;
-    interval_deck_rates(rt)
+    interval_rates(rt, &cells[0..COPY])
 }
 
 fn main(rt: HostRuntime) -> anyhow::Result<()> {

@@ -1,4 +1,7 @@
 // Two recordings on a new cartridge: what a program does with the obligations that begin hands out.
+
+#![tactic(auto)]
+
 ghost use Rattle.std.specs.Prelude.{◌≡◌, true};
 ghost use Rattle.deck.specs.Ending.{is_open};
 ghost use Rattle.deck.specs.State.{deck_state};

@@ -1,4 +1,7 @@
 // Replay: the sound copies of a tape in their order, and the items that they give.
+
+#![tactic(auto)]
+
 mod counting;
 mod cursor;
 mod found;

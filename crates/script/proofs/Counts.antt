@@ -7,7 +7,7 @@ use Rattle.script.specs.declared.inspection.Inspection.{Inspection}
 use Rattle.script.specs.Instructions.{Instruction, Bytes, written, script_of}
 use Rattle.script.specs.Reading.{next, read}
 use Rattle.script.specs.Readouts.{Readout, ended, after, read_out, reached, inspected, Ends}
-use Rattle.script.proofs.Operands.{Byte, bytes_from_each}
+use Rattle.script.proofs.Operands.{Byte, bytes-from-each}
 use Rattle.script.proofs.Whole.{read_out-next, read_out-ended}
 
 -- what is seen in the end, where so many commands and bytes were taken and this run is left
@@ -28,7 +28,7 @@ pub counted_next : (s same : List ℕ) (commands place onward : ℕ) (i : Instru
     → ((k : ℕ) → get_or s k 0 < 256) → same ≡ s → next i ≡ read (drop place same) → onward ≡ place + length (written i)
     → counted commands place (read_out (drop place s)) ≡ seen → counted (commands + 1) onward (read_out (drop onward s)) ≡ seen
 counted_next s same commands place onward i seen each e command on so_far =
-    let bytes : Bytes (drop place s) = All-drop Byte place s (bytes_from_each s each) in
+    let bytes : Bytes (drop place s) = All-drop Byte place s (bytes-from-each s each) in
     let here : read (drop place s) ≡ next i = sym (command ∙ ap (λ l. read (drop place l)) e) in
     let left : drop (length (written i)) (drop place s) ≡ drop onward s = drop-drop (length (written i)) place s ∙ ap (λ n. drop n s) (sym on) in
     let more : read_out (drop place s) ≡ after i (read_out (drop onward s)) = read_out-next (drop place s) i bytes here ∙ ap (λ l. after i (read_out l)) left in

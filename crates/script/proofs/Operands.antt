@@ -9,8 +9,8 @@ use Rattle.script.specs.Instructions.{Bytes, big_endian}
 abbrev pub Byte : ℕ → Type 0
 Byte b = b < 256
 
-pub bytes_from_each : (bs : List ℕ) → ((k : ℕ) → get_or bs k 0 < 256) → Bytes bs
-bytes_from_each bs h = All-from_get_or Byte bs 0 (λ k _. h k)
+pub bytes-from-each : (bs : List ℕ) → ((k : ℕ) → get_or bs k 0 < 256) → Bytes bs
+bytes-from-each bs h = All-from_get_or Byte bs 0 (λ k _. h k)
 
 pub zeros_bytes : (n : ℕ) → Bytes (replicate n 0)
 zeros_bytes zero = tt

@@ -4,7 +4,7 @@ use Rattle.std.proofs.lemmas.List.{take_rest, drop-drop, length-drop}
 use Rattle.script.specs.Instructions.{Bytes}
 use Rattle.script.specs.Reading.{Answer, read, taken}
 use Rattle.script.specs.Fronts.{StandsAt, OnlyAnswer}
-use Rattle.script.proofs.Operands.{bytes_from_each}
+use Rattle.script.proofs.Operands.{bytes-from-each}
 use Rattle.script.proofs.Exact.{stands, only-answer, takes, takes_within}
 
 -- what is left of a script at a place, as `&script[place..]` gives it
@@ -23,7 +23,7 @@ pub step : (script : List ℕ) (place : ℕ) (a : Answer) → a ≡ read (part_f
 step script place a told each =
     let rest = take_rest script place in
     let command : a ≡ read (drop place script) = told ∙ ap read rest in
-    let bytes : Bytes (drop place script) = subst Bytes rest (bytes_from_each (part_from script place) each) in
+    let bytes : Bytes (drop place script) = subst Bytes rest (bytes-from-each (part_from script place) each) in
     let here : StandsAt (drop place script) a = subst (StandsAt (drop place script)) (sym command) (stands (drop place script) bytes) in
     record {
       command = command;

@@ -1,4 +1,7 @@
 // The job script: a run of commands, one after the other, read one at a time.
+
+#![tactic(auto)]
+
 mod command;
 mod inspection;
 mod reader;

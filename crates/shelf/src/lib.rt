@@ -1,4 +1,7 @@
 // The shelf list: the files of a cartridge, and the row of each block.
+
+#![tactic(auto)]
+
 mod filing;
 mod looking;
 mod refusal;

@@ -1,25 +1,19 @@
 // The station: runs a job script from standard input and prints a line for each answer.
+
+#![tactic(auto)]
+
 ghost use Rattle.std.specs.Prelude.{◌≤◌, IfOk};
 
-use deck::Deck;
-use packed::PackedStore;
-use running::run;
+use recorder::Recorder;
+use script::{Command, Reader};
 use std::io;
 use std::io::Read;
-use tape::{FlawSheet, Reading};
+use tape::Flaw;
 
-mod lines;
-mod recording;
-mod replaying;
-mod running;
+mod recorder;
 
 // How much of the input is a script.
 const LIMIT: usize = 4_096;
-
-// The cells of the one track, and the bytes that hold them.
-const CAPACITY: u32 = 480_000;
-
-const BYTES: usize = 60_000;
 
 // Fills the buffer from standard input, and answers how many bytes there were.
 fn read_script(rt: &HostRuntime, script: &mut [u8; LIMIT]) -> io::Result<usize>
@@ -37,13 +31,60 @@ fn read_script(rt: &HostRuntime, script: &mut [u8; LIMIT]) -> io::Result<usize>
     Ok(size)
 }
 
+// One command, and the lines that it prints.
+fn perform(rt: &HostRuntime, recorder: &mut Recorder, command: Command<'_>) -> anyhow::Result<()> {
+    match command {
+        Command::Begin => recorder.begin(rt),
+        Command::Write(block) => recorder.write(rt, block),
+        Command::Mark => recorder.mark(rt),
+        Command::Stop => recorder.stop(rt),
+        Command::Replay => recorder.replay(rt),
+        Command::Flaw {
+            track,
+            place,
+            length,
+        } => {
+            let extent = u32::from(length);
+            recorder.flaw(
+                rt,
+                Flaw {
+                    on: track,
+                    place,
+                    extent,
+                },
+            )
+        }
+        Command::Survey => not_built(rt, "survey"),
+    }
+}
+
+fn not_built(rt: &HostRuntime, command: &str) -> anyhow::Result<()> {
+    eprintln!(rt; "station: the command {command} is not built yet")?;
+    Ok(())
+}
+
+// Runs a script to its end, or to the first command that cannot be read, and stops what is open then.
+fn run(rt: &HostRuntime, script: &[u8]) -> anyhow::Result<()> {
+    let mut recorder = Recorder::new(rt.alloc())?;
+    let mut reader = Reader::new(script);
+    for _ in 0..LIMIT {
+        match reader.next_command() {
+            Ok(Some(command)) => perform(rt, &mut recorder, command)?,
+            Ok(None) => break,
+            Err(refusal) => {
+                let number = refusal.number();
+                println!(rt; "refused {number}")?;
+                break;
+            }
+        }
+    }
+    recorder.close(rt)
+}
+
 fn station(rt: &HostRuntime) -> anyhow::Result<()> {
     let mut script = [0; LIMIT];
     let size = read_script(rt, &mut script)?;
-    let memory = vec![in rt.alloc(); 0u8; BYTES]?;
-    let (store, _) = PackedStore::new(memory, 1, CAPACITY);
-    let mut deck = Deck::new(FlawSheet::new(store));
-    run(rt, &mut deck, &script[0..size])
+    run(rt, &script[0..size])
 }
 
 fn main(rt: HostRuntime) -> anyhow::Result<()> {

@@ -1,4 +1,7 @@
 // Cartridges: what one means, the flaw sheet, and the search for the stretch that holds a number.
+
+#![tactic(auto)]
+
 mod beside;
 mod cartridge;
 mod flaw;

@@ -1,4 +1,7 @@
 // Short trials of the cartridges, each with cells written out.
+
+#![tactic(auto)]
+
 #[cfg(test)]
 mod intervals;
 

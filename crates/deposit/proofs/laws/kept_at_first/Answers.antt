@@ -1,5 +1,5 @@
 use Rattle.std.proofs.Common.{refl}
-use Rattle.deposit.proofs.Agreeing.{list_and_tape}
+use Rattle.deck.proofs.Agreeing.{list_and_tape}
 use Rattle.deposit.proofs.NewCartridges.{replays_what_was_kept}
 use Rattle.deposit.proofs.laws.kept_at_first.Goals as goal
 

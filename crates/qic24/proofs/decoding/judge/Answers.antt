@@ -1,27 +1,27 @@
-use Rattle.std.proofs.Common.{◌≡◌, Ok, Err, sym, ap, ◌∙◌, arith}
+use Rattle.std.proofs.Common.{◌≡◌, true, false, get_or, take, Ok, sym, refl, ap, ◌∙◌, arith}
 use Rattle.qic24.specs.Crc.{crc}
-use Rattle.qic24.specs.Decode.{number_in}
-use Rattle.qic24.proofs.Judging.{judged-mixed, judged_check, judged_other, judged_control, judged-zero, judged-item, from_some, from_none}
-use Rattle.qic24.specs.Copy.{held}
+use Rattle.qic24.specs.Decode.{mixed, word_at, number_in, content_in}
+use Rattle.qic24.proofs.Judging.{judged-mixed, judged_check, judged_other, judged_control, judged-zero, judged-item, from_some, from-none}
+use Rattle.qic24.specs.Copy.{Numbered, held}
 use Rattle.qic24.proofs.decoding.judge.Goals as goal
 
 pub returns-then-is-mixed : goal.returns-then-is-mixed
-returns-then-is-mixed c = ap Err c.fault_in.ensures ∙ sym (judged-mixed c.args.track c.args.groups.now.marks c.args.groups.now.bytes (sym c.if-is-mixed.ensures))
+returns-then-is-mixed c = sym (judged-mixed c.args.track c.args.groups.now.marks c.args.groups.now.bytes (sym c.if-is-mixed.ensures))
 
 pub returns-then-crc-recorded-check : goal.returns-then-crc-recorded-check
 returns-then-crc-recorded-check c =
-    ap Err c.fault-in-then-crc-recorded-check.ensures ∙ sym (judged_check c.args.track c.args.groups.now.marks c.args.groups.now.bytes (sym c.if-is-mixed.ensures)
+    sym (judged_check c.args.track c.args.groups.now.marks c.args.groups.now.bytes (sym c.if-is-mixed.ensures)
     (λ e. c.if-crc-recorded-check.true (c.crc.ensures ∙ e ∙ sym c.recorded-check.ensures)))
 
 pub returns-then-bytes-track : goal.returns-then-bytes-track
 returns-then-bytes-track c =
     let k = sym c.crc.ensures ∙ c.if-crc-recorded-check.false ∙ c.recorded-check.ensures in
-    ap Err c.fault-in-then-bytes-track.ensures ∙ sym (judged_other c.args.track c.args.groups.now.marks c.args.groups.now.bytes (sym c.if-is-mixed.ensures) k c.if-bytes-track.true)
+    sym (judged_other c.args.track c.args.groups.now.marks c.args.groups.now.bytes (sym c.if-is-mixed.ensures) k c.if-bytes-track.true)
 
 pub returns-then-control-ne0 : goal.returns-then-control-ne0
 returns-then-control-ne0 c =
     let k = sym c.crc.ensures ∙ c.if-crc-recorded-check.false ∙ c.recorded-check.ensures in
-    ap Err c.fault-in-then-control-ne0.ensures ∙ sym (judged_control c.args.track c.args.groups.now.marks c.args.groups.now.bytes (sym c.if-is-mixed.ensures) k c.if-bytes-track.false c.if-control-ne0.true)
+    sym (judged_control c.args.track c.args.groups.now.marks c.args.groups.now.bytes (sym c.if-is-mixed.ensures) k c.if-bytes-track.false c.if-control-ne0.true)
 
 pub returns-in-Some : goal.returns-in-Some
 returns-in-Some c =
@@ -36,5 +36,5 @@ returns-in-Some c =
 pub returns-in-None : goal.returns-in-None
 returns-in-None c =
     let k = sym c.crc.ensures ∙ c.if-crc-recorded-check.false ∙ c.recorded-check.ensures in
-    let z = from_none c.number.result c.content.result c.in-None.ensures c.number.ensures.small in
-    ap Err c.fault-in-in-None.ensures ∙ sym (judged-zero c.args.track c.args.groups.now.marks c.args.groups.now.bytes (sym c.if-is-mixed.ensures) k c.if-bytes-track.false c.if-control-ne0.false (sym c.number.ensures.value ∙ z))
+    let z = from-none c.number.result c.content.result c.in-None.ensures c.number.ensures.small in
+    sym (judged-zero c.args.track c.args.groups.now.marks c.args.groups.now.bytes (sym c.if-is-mixed.ensures) k c.if-bytes-track.false c.if-control-ne0.false (sym c.number.ensures.value ∙ z))

@@ -1,18 +1,18 @@
-use Rattle.std.proofs.Common.{◌≡◌, ℕ, ◌+◌, ◌-◌, ◌*◌, ◌^◌, ◌<◌, ◌≤◌, true, false, cond, eqb, List, [], ◌∷◌, ◌++◌, map, length, get_or, take, drop, Some, sym, ap, ◌∙◌, subst, arith}
+use Rattle.std.proofs.Common.{◌≡◌, ℕ, ◌+◌, ◌-◌, ◌*◌, ◌^◌, ◌<◌, ◌≤◌, true, false, cond, eqb, List, [], ◌∷◌, ◌++◌, map, length, get_or, take, drop, Some, None, sym, refl, ap, ◌∙◌, subst, arith, rules}
 use Rattle.std.proofs.lemmas.List.{length-map, length-take-le, length-drop, length-set, take_more, take_more_set, map_push, take_all, at_drop_all}
 use Rattle.std.proofs.lemmas.Result.{err_from_is_err_and}
 use Rattle.std.proofs.lemmas.Bool.{cond_both}
 use Rattle.qic24.specs.Cells.{cell, number_of}
 use Rattle.qic24.specs.Decode.{groups, entry, first_fault, fault_at, no_code_at, byte_of, marks_in}
 use Rattle.qic24.proofs.Binary.{number_of-below, cells_binary}
-use Rattle.qic24.proofs.Groups.{length-groups, group_of-bytes, ok_code, err_code, code_small, fault_step, fault_here, marks-more, bool_cond}
+use Rattle.qic24.proofs.Groups.{length-groups, group_of_bytes, ok_code, err_code, code_small, fault_step, fault_here, marks-more, bool_cond}
 use Rattle.qic24.proofs.decoding.read_groups.Goals as goal
 
 -- the group that the code has at hand is the group of the definition
 here : (cs : List ℕ) (i g : ℕ) → i < 518 → g ≡ number_of (map cell (take (i * 10 + 10 - i * 10) (drop (i * 10) cs))) → g ≡ get_or (groups 518 (map cell cs)) i 0
 here cs i g h e =
     let k : i * 10 + 10 - i * 10 ≡ 10 = omega arith in
-    e ∙ ap (λ n. number_of (map cell (take n (drop (i * 10) cs)))) k ∙ group_of-bytes 518 i cs h
+    e ∙ ap (λ n. number_of (map cell (take n (drop (i * 10) cs)))) k ∙ group_of_bytes 518 i cs h
 
 pub read-group-requires : goal.read-group-requires
 read-group-requires c =

@@ -1,8 +1,7 @@
-use Rattle.std.proofs.Common.{◌≡◌, ℕ, List, ◌++◌, length, sym, ap, ◌∙◌, arith}
+use Rattle.std.proofs.Common.{◌≡◌, ℕ, ◌+◌, List, ◌++◌, length, sym, refl, ap, ◌∙◌, arith}
 use Rattle.std.proofs.lemmas.List.{append_assoc, length-append}
 use Rattle.qic24.specs.Buffers.{overlaid}
 use Rattle.qic24.specs.Copy.{body, data_cells, coded, address, two_bytes, item_crc, held}
-use Rattle.qic24.specs.Measures.{body_cells}
 use Rattle.qic24.proofs.Binary.{coded-append, length-coded}
 use Rattle.qic24.proofs.Overlay.{overlay_more}
 use Rattle.qic24.proofs.encoding.put_body.Goals as goal
@@ -35,5 +34,5 @@ returns c =
     let b2 = overlay_more o c.put-bytes-check.new.out c.put-bytes.new.out at c.put-bytes-check.result (d ++ coded a) (coded k) b1 (omega arith) (omega arith)
     (c.put-bytes.ensures.buffer ∙ ap (λ (z : List ℕ). overlaid c.put-bytes-check.new.out c.put-bytes-check.result (coded z)) ek) in
     let e : (d ++ coded a) ++ coded k ≡ d ++ coded (a ++ k) = append_assoc d (coded a) (coded k) ∙ ap (λ (z : List ℕ). d ++ z) (sym (coded-append a k)) in
-    let l2 : length (d ++ coded (a ++ k)) ≡ body_cells = length-append d (coded (a ++ k)) ∙ omega (arith, length-coded (a ++ k)) in
+    let l2 : length (d ++ coded (a ++ k)) ≡ 5180 = length-append d (coded (a ++ k)) ∙ omega (arith, length-coded (a ++ k)) in
     record { place = omega arith; size = l2; buffer = b2 ∙ ap (overlaid o at) e }

@@ -36,8 +36,8 @@ copy-cells-requires c =
     }
 
 -- the bytes from one on, of those in use on a track
-bytes_from : (b f u c : ℕ) (slice m : List ℕ) → b ≡ c → slice ≡ m → f ≤ u → take (b + u - (b + f)) (drop (b + f) slice) ≡ drop f (take u (drop c m))
-bytes_from b f u c slice m e l h =
+bytes-from : (b f u c : ℕ) (slice m : List ℕ) → b ≡ c → slice ≡ m → f ≤ u → take (b + u - (b + f)) (drop (b + f) slice) ≡ drop f (take u (drop c m))
+bytes-from b f u c slice m e l h =
     let n : b + u - (b + f) ≡ u - f = omega arith in
     let o : f + (u - f) ≡ u = omega arith in
     ap (λ (k : ℕ). take k (drop (b + f) slice)) n ∙ ap (λ (xs : List ℕ). take (u - f) (drop (b + f) xs)) l ∙ ap (λ (k : ℕ). take (u - f) (drop (k + f) m)) e
@@ -57,7 +57,7 @@ returns c =
     let from = c.start-from.result.0 in
     let cells = c.start-from.result.1 in
     let before : cells ≤ c.args.place = c.start-from.ensures.before in
-    let part = bytes_from c.base-base.result from u (t * s.capacity) c.as-slice-memory.result.now s.memory.items c.base-base.ensures c.as-slice-memory.ensures.value c.start-from.ensures.used in
+    let part = bytes-from c.base-base.result from u (t * s.capacity) c.as-slice-memory.result.now s.memory.items c.base-base.ensures c.as-slice-memory.ensures.value c.start-from.ensures.used in
     let first : cells ≡ length (flat_map gap (take from (take u bytes))) = c.start-from.ensures.begins ∙ ap (λ (xs : List ℕ). length (flat_map gap xs)) (sym (take-take from u bytes c.start-from.ensures.used)) in
     let new : List ℕ = c.copy-cells.new.out in
     let long : length new ≡ length c.args.out.now = c.copy-cells.auto.out in

@@ -22,9 +22,9 @@ module _ (s : OddTape) (sent out : List ℕ) (is : out ≡ thinned s.passed (map
   out_length : length out ≡ length sent
   out_length = ap length is ∙ (length_thinned s.passed (map cell sent) ∙ length-map sent cell)
 
-  filled-length : length filled ≡ 512
+  filled_length : length filled ≡ 512
   unfolding filled
-  filled-length =
+  filled_length =
       let a = length-append (take s.used s.cells) (out ++ drop (s.used + length sent - s.used) (drop s.used s.cells)) in
       let b = length-append out (drop (s.used + length sent - s.used) (drop s.used s.cells)) in
       let d = length-drop (s.used + length sent - s.used) (drop s.used s.cells) in
@@ -36,10 +36,10 @@ module _ (s : OddTape) (sent out : List ℕ) (is : out ≡ thinned s.passed (map
   unfolding filled
   filled_front = take-put_mid s.used (s.used + length sent - s.used) s.cells out (s.used + length sent) (omega (arith, out_length)) (omega arith) ∙ ap (λ (x : List ℕ). odd_cells s ++ x) is
 
-  filled-binary : (i : ℕ) → i < s.used + length sent → get_or filled i 0 < 2
-  filled-binary i h =
+  filled_binary : (i : ℕ) → i < s.used + length sent → get_or filled i 0 < 2
+  filled_binary i h =
       let all : All Cell (take (s.used + length sent) filled) = subst (All Cell) (sym filled_front) (All-append Cell (odd_cells s) (thinned s.passed (map cell sent)) (odd_binary s) (thinned_binary s.passed (map cell sent))) in
-      let long = length-take-le (s.used + length sent) filled (omega (arith, filled-length)) in
+      let long = length-take-le (s.used + length sent) filled (omega (arith, filled_length)) in
       subst Cell (get_or-take (s.used + length sent) filled i 0 h) (All-get_or Cell (take (s.used + length sent) filled) i 0 (omega arith) all)
 
 pub invariant-of-self : goal.invariant-of-self
@@ -48,7 +48,7 @@ invariant-of-self c =
     let s = c.args.self.now in
     let sent : List ℕ = c.args.sent.now in
     let out : List ℕ = c.thin-self.new.out in
-    (filled-length s sent out c.thin-self.ensures.cells (omega arith), (omega arith, (filled-binary s sent out c.thin-self.ensures.cells (omega arith), (c.thin-self.ensures.third, tt))))
+    (filled_length s sent out c.thin-self.ensures.cells (omega arith), (omega arith, (filled_binary s sent out c.thin-self.ensures.cells (omega arith), (c.thin-self.ensures.third, tt))))
 
 pub returns : goal.returns
 unfolding filled

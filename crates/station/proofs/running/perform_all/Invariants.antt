@@ -1,9 +1,0 @@
-use Rattle.std.proofs.Common.{◌≡◌, ◌-◌, length}
-use Rattle.station.specs.Holding.{Paired}
-use Rattle.station.proofs.running.perform_all.Given as goal
-
-abbrev pub invariant-loop-command : goal.invariant-loop-command
-invariant-loop-command g l = Paired l.held l.deck × (l.reader.script.now ≡ l.script)
-
-abbrev pub decreases-loop-command : goal.decreases-loop-command
-decreases-loop-command g l = length l.script - l.reader.place
