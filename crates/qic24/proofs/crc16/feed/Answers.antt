@@ -9,8 +9,8 @@ bounds-remainders-index c =
     let h = xor_lt 8 (c.args.register / 256) c.from.result (omega arith) (omega arith) in
     omega (arith, h, c.from-index.ensures)
 
-pub offset-bounds-remainders-index : goal.offset-bounds-remainders-index
-offset-bounds-remainders-index c =
+pub offset_bounds-remainders-index : goal.offset_bounds-remainders-index
+offset_bounds-remainders-index c =
     let h = xor_lt 8 (c.args.register / 256) c.from.result (omega arith) (omega arith) in
     let e = c.from-index.ensures in
     let i : c.from-index.result < 256 = omega arith in search rules

@@ -8,5 +8,5 @@ pub returns : goal.returns
 returns c =
     let x = c.args.item.now.content in
     let a = address c.args.track c.args.item.now.number in
-    c.feed-all.ensures ∙ ap (crc_from c.feed-data-register.result) c.address.ensures ∙
-    ap (λ v. crc_from v a) (c.feed-data-register.ensures ∙ ap (λ z. crc (counted z)) c.content.ensures) ∙ sym (crc_from-append (counted x) a 0xFFFF)
+    c.feed_all.ensures ∙ ap (crc_from c.feed_data-register.result) c.address.ensures ∙
+    ap (λ v. crc_from v a) (c.feed_data-register.ensures ∙ ap (λ z. crc (counted z)) c.content.ensures) ∙ sym (crc_from-append (counted x) a 0xFFFF)

@@ -4,14 +4,14 @@ use Rattle.qic24.specs.Cells.{cell, number_of}
 use Rattle.qic24.proofs.Binary.{part_small, number_of-push, cell-binary}
 use Rattle.qic24.proofs.decoding.group.Goals as goal
 
-pub overflow-mul-number : goal.overflow-mul-number
-overflow-mul-number c =
+pub overflow_mul-number : goal.overflow_mul-number
+overflow_mul-number c =
     let h = part_small 10 c.loop-cell.cell-index c.args.cells.now (omega arith) in
     let e = c.loop-cell.invariant in
     let k : c.loop-cell.number < 1024 = omega arith in search rules
 
-pub overflow-add-number : goal.overflow-add-number
-overflow-add-number c =
+pub overflow_add-number : goal.overflow_add-number
+overflow_add-number c =
     let h = part_small 10 c.loop-cell.cell-index c.args.cells.now (omega arith) in
     let e = c.loop-cell.invariant in
     let k : c.loop-cell.number < 1024 = omega arith in
@@ -22,7 +22,7 @@ pub loop-cell-preserved : goal.loop-cell-preserved
 loop-cell-preserved c =
     let cs = c.args.cells.now in
     let i = c.loop-cell.cell-index in
-    ap (λ n. n * 2 + c.cell-of.result) c.loop-cell.invariant ∙ ap (λ n. number_of (map cell (take i cs)) * 2 + n) c.cell-of.ensures ∙
+    ap (λ n. n * 2 + c.cell_of.result) c.loop-cell.invariant ∙ ap (λ n. number_of (map cell (take i cs)) * 2 + n) c.cell_of.ensures ∙
     sym (ap number_of (map_more cell cs i 0 c.loop-cell-test.true) ∙ number_of-push (map cell (take i cs)) (cell (get_or cs i 0)))
 
 pub returns : goal.returns

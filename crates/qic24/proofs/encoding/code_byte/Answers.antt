@@ -7,4 +7,4 @@ use Rattle.qic24.proofs.encoding.code_byte.Goals as goal
 pub returns : goal.returns
 returns c =
     let b = c.args.byte in
-    c.put-byte.ensures.buffer ∙ ap (λ n. byte_cells b ++ drop (0 + n) (0 ∷ 0 ∷ 0 ∷ 0 ∷ 0 ∷ 0 ∷ 0 ∷ 0 ∷ 0 ∷ 0 ∷ [])) (length_byte b) ∙ append-nil (byte_cells b)
+    c.put_byte.ensures.buffer ∙ ap (λ n. byte_cells b ++ drop (0 + n) (0 ∷ 0 ∷ 0 ∷ 0 ∷ 0 ∷ 0 ∷ 0 ∷ 0 ∷ 0 ∷ 0 ∷ [])) (length_byte b) ∙ append-nil (byte_cells b)

@@ -13,7 +13,7 @@ returns c =
     let m : bit_and b 15 ≡ b % 16 = and_mask b 4 in
     let l = length_nibble (b / 16) in
     record {
-      place = omega (arith, c.put-nibble.ensures.place, c.put-nibble-low.ensures.place);
-      buffer = overlay_more c.args.out.now c.put-nibble-low.new.out _ c.args.at c.put-nibble-low.result (nibble_cells (b / 16)) (nibble_cells (b % 16)) c.put-nibble-low.ensures.buffer
-          (omega (arith, c.put-nibble-low.ensures.place)) (omega (arith, c.requires)) (c.put-nibble.ensures.buffer ∙ ap (λ n. overlaid c.put-nibble-low.new.out c.put-nibble-low.result (nibble_cells n)) m);
+      place = omega (arith, c.put_nibble.ensures.place, c.put_nibble-low.ensures.place);
+      buffer = overlay_more c.args.out.now c.put_nibble-low.new.out _ c.args.at c.put_nibble-low.result (nibble_cells (b / 16)) (nibble_cells (b % 16)) c.put_nibble-low.ensures.buffer
+          (omega (arith, c.put_nibble-low.ensures.place)) (omega (arith, c.requires)) (c.put_nibble.ensures.buffer ∙ ap (λ n. overlaid c.put_nibble-low.new.out c.put_nibble-low.result (nibble_cells n)) m);
     }

@@ -18,10 +18,10 @@ loop-byte-preserved c =
     let l = length-coded (take i bs) in
     let t = length-take-le i bs (omega arith) in
     let pre = c.requires in
-    let p = c.put-byte-end.ensures.place in
+    let p = c.put_byte-end.ensures.place in
     let inv = c.loop-byte.invariant.0 in (
       omega arith,
-      overlay_more c.args.out.now c.loop-byte.out c.put-byte-end.new.out c.args.at c.loop-byte.end (coded (take i bs)) (byte_cells (get_or bs i 0)) c.loop-byte.invariant.1 (omega arith) (omega arith) c.put-byte-end.ensures.buffer ∙
+      overlay_more c.args.out.now c.loop-byte.out c.put_byte-end.new.out c.args.at c.loop-byte.end (coded (take i bs)) (byte_cells (get_or bs i 0)) c.loop-byte.invariant.1 (omega arith) (omega arith) c.put_byte-end.ensures.buffer ∙
           ap (overlaid c.args.out.now c.args.at) (sym (coded-more bs i h)),
     )
 

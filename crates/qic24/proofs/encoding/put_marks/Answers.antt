@@ -10,7 +10,7 @@ loop-count-init c = (omega arith, sym (overlay_none c.args.out.now c.args.at))
 
 pub loop-count-preserved : goal.loop-count-preserved
 loop-count-preserved c =
-    let i = c.loop-count.-count in
+    let i = c.loop-count._count in
     let l = length-marks i in
     let inv = c.loop-count.invariant.0 in (
       omega (arith, c.put-end.ensures.place),
@@ -20,5 +20,5 @@ loop-count-preserved c =
 
 pub returns : goal.returns
 returns c =
-    let n : c.loop-count.-count ≡ 512 = omega arith in
-    record { place = omega (arith, c.loop-count.invariant.0); buffer = c.loop-count.invariant.1 ∙ ap (overlaid c.args.out.now c.args.at) (mark_data-at c.loop-count.-count n) }
+    let n : c.loop-count._count ≡ 512 = omega arith in
+    record { place = omega (arith, c.loop-count.invariant.0); buffer = c.loop-count.invariant.1 ∙ ap (overlaid c.args.out.now c.args.at) (mark_data-at c.loop-count._count n) }

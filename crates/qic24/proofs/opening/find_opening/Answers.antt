@@ -21,11 +21,11 @@ next bs s i v x le h e q =
 pub returns-then-seen-eq-PATTERN : goal.returns-then-seen-eq-PATTERN
 returns-then-seen-eq-PATTERN c =
     let bs = c.args.cells.now in
-    let s = c.saturating-sub-start.result in
+    let s = c.saturating_sub-start.result in
     let i = c.loop-place.place in
     let l = length-map bs cell in
-    let st = c.saturating-sub-start.ensures in
-    let n = next bs s i c.loop-place.seen c.cell-of.result c.loop-place.auto.place c.loop-place-test.true c.loop-place.invariant.0 c.cell-of.ensures in
+    let st = c.saturating_sub-start.ensures in
+    let n = next bs s i c.loop-place.seen c.cell_of.result c.loop-place.auto.place c.loop-place-test.true c.loop-place.invariant.0 c.cell_of.ensures in
     let o = shows (map cell bs) (cells_binary bs) s (i + 1) (omega arith) (omega arith) (sym n ∙ c.if-seen-eq-PATTERN.true) in
     let k = o.0 in
     record { first = (omega arith, o.1, c.loop-place.invariant.1); within = (omega arith, omega arith); runs = no_nine_ones; inside = no_opening-inside }
@@ -33,11 +33,11 @@ returns-then-seen-eq-PATTERN c =
 pub loop-place-preserved : goal.loop-place-preserved
 loop-place-preserved c =
     let bs = c.args.cells.now in
-    let s = c.saturating-sub-start.result in
+    let s = c.saturating_sub-start.result in
     let i = c.loop-place.place in
     let l = length-map bs cell in
-    let st = c.saturating-sub-start.ensures in
-    let n = next bs s i c.loop-place.seen c.cell-of.result c.loop-place.auto.place c.loop-place-test.true c.loop-place.invariant.0 c.cell-of.ensures in (
+    let st = c.saturating_sub-start.ensures in
+    let n = next bs s i c.loop-place.seen c.cell_of.result c.loop-place.auto.place c.loop-place-test.true c.loop-place.invariant.0 c.cell_of.ensures in (
       n,
       λ q f h o. ⊎_elim
           (λ (e : q ≡ i + 1).
