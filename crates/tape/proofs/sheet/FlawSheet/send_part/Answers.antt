@@ -12,9 +12,9 @@ pub returns : goal.returns
 returns g c =
     let s = c.args.self.now.inner in
     let fs = sheet_flaws c.args.self.now in
-    let is : c.mask-into.new.out ≡ masked fs c.args.at c.args.place c.args.sent.now = c.mask-into.ensures in
-    let long : length c.mask-into.new.out ≡ length c.args.sent.now = ap length is ∙ length_masked fs c.args.at c.args.place c.args.sent.now in
-    let cells : map cell c.mask-into.new.out ≡ masked fs c.args.at c.args.place (map cell c.args.sent.now) = ap (map cell) is ∙ cell_masked fs c.args.at c.args.place c.args.sent.now in
+    let is : c.mask_into.new.out ≡ masked fs c.args.at c.args.place c.args.sent.now = c.mask_into.ensures in
+    let long : length c.mask_into.new.out ≡ length c.args.sent.now = ap length is ∙ length_masked fs c.args.at c.args.place c.args.sent.now in
+    let cells : map cell c.mask_into.new.out ≡ masked fs c.args.at c.args.place (map cell c.args.sent.now) = ap (map cell) is ∙ cell_masked fs c.args.at c.args.place c.args.sent.now in
     record {
       answer = c.append.ensures.answer
           ∙ ap (λ (n : ℕ). cond {A = Result (Unit {0}) Refusal} (ltb c.args.at (length (g.C.Reading.cells s))) (cond (leb (length (track (g.C.Reading.cells s) c.args.at) + n) (g.C.Reading.room s)) (Ok tt) (Err TrackFull)) (Err NoTrack)) long;

@@ -11,7 +11,7 @@ use Rattle.tape.proofs.sheet.cartridge.FlawSheetRecording.append.Goals as goal
 pub returns-else-touches : goal.returns-else-touches
 returns-else-touches g c =
     let s = c.args.self.now.inner in
-    let told = length-told c.args.at (length (g.C.Reading.cells s)) (length (track (g.C.Reading.cells s) c.args.at)) c.in-ok-length.length c.in-ok-length.ensures in
+    let told = length-told c.args.at (length (g.C.Reading.cells s)) (length (track (g.C.Reading.cells s) c.args.at)) c.in_ok-length.length c.in_ok-length.ensures in
     let clean : Clean (sheet_flaws c.args.self.now) c.args.at (length (track (g.C.Reading.cells s) c.args.at)) (length c.args.sent.now) =
     subst (λ (n : ℕ). Clean (sheet_flaws c.args.self.now) c.args.at n (length c.args.sent.now)) told.1 (c.touches.ensures.clean c.if-touches.false) in
     record {
