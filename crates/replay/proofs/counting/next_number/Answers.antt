@@ -12,18 +12,18 @@ use Rattle.replay.proofs.counting.next_number.Goals as goal
 pub loop-after-init : goal.loop-after-init
 loop-after-init g c =
     let s = g.C.Reading.cells c.args.cartridge.now in
-    subst (GoesOnAt s) (sym c.rewound_cursor.ensures) (record { out = []; replays = replays_from_start s; least = omega arith; most = omega arith })
+    subst (GoesOnAt s) (sym c.rewound-cursor.ensures) (record { out = []; replays = replays_from_start s; least = omega arith; most = omega arith })
 
-pub returns-in-err-after : goal.returns-in-err-after
-returns-in-err-after g c =
-    let p = err_from_is_err_and c.from-residual.result c.from-residual.ensures.1 in
-    record { answer = rw (p.1, p.2) (beyond-number (g.C.Reading.cells c.args.cartridge.now) c.loop-after.cursor c.in-err-after.field-0.0 c.loop-after.invariant c.in-err-after.ensures.answer); small = rw p.1 tt }
+pub returns-in_err-after : goal.returns-in_err-after
+returns-in_err-after g c =
+    let p = err_from_is_err_and c.from_residual.result c.from_residual.ensures.1 in
+    record { answer = rw (p.1, p.2) (beyond-number (g.C.Reading.cells c.args.cartridge.now) c.loop-after.cursor c.in_err-after.field-0.0 c.loop-after.invariant c.in_err-after.ensures.answer); small = rw p.1 tt }
 
 pub loop-after-smaller : goal.loop-after-smaller
 loop-after-smaller g c =
     let s = g.C.Reading.cells c.args.cartridge.now in
     let k = c.loop-after.cursor in
-    let m = c.in-ok-after.ensures in
+    let m = c.in_ok-after.ensures in
     let f = placed c.in-Item.place (held c.in-Item.item) in
     let e : found_item f ≡ next_found s k = ap (λ (x : Found). found_by (Ok x)) (sym c.in-Item.is) ∙ m.answer in
     let a : c.in-Item.after ≡ cursor_after k (next_found s k) = ap (λ (x : Found). goes_on k (Ok x)) (sym c.in-Item.is) ∙ m.after in
@@ -34,7 +34,7 @@ pub loop-after-preserved : goal.loop-after-preserved
 loop-after-preserved g c =
     let s = g.C.Reading.cells c.args.cartridge.now in
     let k = c.loop-after.cursor in
-    let m = c.in-ok-after.ensures in
+    let m = c.in_ok-after.ensures in
     let f = placed c.in-Item.place (held c.in-Item.item) in
     let e : found_item f ≡ next_found s k = ap (λ (x : Found). found_by (Ok x)) (sym c.in-Item.is) ∙ m.answer in
     let a : c.in-Item.after ≡ cursor_after k (next_found s k) = ap (λ (x : Found). goes_on k (Ok x)) (sym c.in-Item.is) ∙ m.after in
@@ -45,5 +45,5 @@ pub returns : goal.returns
 returns g c =
     let s = g.C.Reading.cells c.args.cartridge.now in
     let k = c.loop-after.cursor in
-    let e : found_end c.in-default.field-0 ≡ next_found s k = ap (λ (x : Found). found_by (Ok x)) (sym c.in-default.is) ∙ c.in-ok-after.ensures.answer in
-    record { answer = end-number s k c.in-default.field-0 c.loop-after.invariant e; small = (c.loop-after.invariant.least, c.loop-after.invariant.most) }
+    let e : found_end c.in_default.field-0 ≡ next_found s k = ap (λ (x : Found). found_by (Ok x)) (sym c.in_default.is) ∙ c.in_ok-after.ensures.answer in
+    record { answer = end-number s k c.in_default.field-0 c.loop-after.invariant e; small = (c.loop-after.invariant.least, c.loop-after.invariant.most) }

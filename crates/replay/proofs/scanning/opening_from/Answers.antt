@@ -20,7 +20,7 @@ loop-place-preserved g c =
     let s = g.C.Reading.cells c.args.cartridge.now in
     let p = c.loop-place.place in
     let e : p.on + 1 ≡ suc p.on = omega arith in
-    ap (λ (t : ℕ). openings_from s (place_on t 0)) e ∙ (sym (from_next s p.on p.at c.in-default.ensures) ∙ c.loop-place.invariant)
+    ap (λ (t : ℕ). openings_from s (place_on t 0)) e ∙ (sym (from_next s p.on p.at c.in_default.ensures) ∙ c.loop-place.invariant)
 
 pub returns : goal.returns
 returns g c =

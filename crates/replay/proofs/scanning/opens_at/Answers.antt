@@ -4,14 +4,14 @@ use Rattle.replay.proofs.TapeOpenings.{opens_not}
 use Rattle.replay.proofs.Windows.{found_in_part, opens_tested}
 use Rattle.replay.proofs.scanning.opens_at.Goals as goal
 
-pub returns-in-default : goal.returns-in-default
-returns-in-default g c = sym (opens_not (track (g.C.Reading.cells c.args.cartridge.now) c.args.place.on) c.args.place.at (λ o. c.in-default.ensures o.0))
+pub returns-in_default : goal.returns-in_default
+returns-in_default g c = sym (opens_not (track (g.C.Reading.cells c.args.cartridge.now) c.args.place.on) c.args.place.at (λ o. c.in_default.ensures o.0))
 
 pub returns : goal.returns
 returns g c =
     let s = c.args.cartridge.now in
     let t = track (g.C.Reading.cells s) c.args.place.on in
-    let n = c.read-part-count.result in
+    let n = c.read_part-count.result in
     let e : c.in-Some.start + 14 ≡ c.args.place.at = omega (arith, c.in-Some.ensures) in
-    c.is-some.ensures ∙ opens_tested t c.in-Some.start n c.args.place.at c.find-opening.result c.read-part-count.ensures.count e
-    (found_in_part t c.read-part-count.new.out c.in-Some.start n c.find-opening.result (g.met.C.Reading.binary s c.args.place.on) c.read-part-count.ensures.cells c.find-opening.ensures.first)
+    c.is_some.ensures ∙ opens_tested t c.in-Some.start n c.args.place.at c.find_opening.result c.read_part-count.ensures.count e
+    (found_in_part t c.read_part-count.new.out c.in-Some.start n c.find_opening.result (g.met.C.Reading.binary s c.args.place.on) c.read_part-count.ensures.cells c.find_opening.ensures.first)

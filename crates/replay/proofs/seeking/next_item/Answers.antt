@@ -14,13 +14,13 @@ use Rattle.replay.proofs.seeking.next_item.Goals as goal
 beyond : (k n : ℕ) → n ≤ k → (k ≡ n → ⊥) → (k - 1 ≡ n → ⊥) → suc n < k
 beyond k n a d f = grind arith
 
-pub overflow-add-past : goal.overflow-add-past
-overflow-add-past g c =
+pub overflow_add-past : goal.overflow_add-past
+overflow_add-past g c =
     let s = c.args.cartridge.now in
     omega (arith, opening_within (g.C.Reading.cells s) c.loop-place.from c.in-Some.place c.in-Some.ensures, g.met.C.Reading.inside s c.in-Some.place.on, g.met.C.Reading.small s)
 
-pub overflow-add-from : goal.overflow-add-from
-overflow-add-from g c =
+pub overflow_add-from : goal.overflow_add-from
+overflow_add-from g c =
     let s = c.args.cartridge.now in
     omega (arith, opening_within (g.C.Reading.cells s) c.loop-place.from c.in-Some.place c.in-Some.ensures, g.met.C.Reading.inside s c.in-Some.place.on, g.met.C.Reading.small s)
 
@@ -89,6 +89,6 @@ pub returns : goal.returns
 returns g c =
     let s = c.args.cartridge.now in
     let k = c.args.cursor.now in
-    let none = none_first (g.C.Reading.cells s) c.loop-place.from c.in-default.ensures in
+    let none = none_first (g.C.Reading.cells s) c.loop-place.from c.in_default.ensures in
     let is : found_end c.loop-place.passed ≡ next_found (g.C.Reading.cells s) k = sym (ap (seek k.expected c.loop-place.passed c.loop-place.unsound) none) ∙ c.loop-place.invariant in
     record { answer = is; after = ap (cursor_after k) is; finds = next_finds; steps = next_by-next; copies = replays_sound_copies; order = replays_in_order; lists = lists_sound_copies; once = one_list; openings = opens_exactly; clear = never_overlap }
