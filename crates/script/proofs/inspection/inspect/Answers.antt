@@ -13,21 +13,21 @@ loop-next-preserved c =
     let inv = c.loop-next.invariant in
     let i = said c.in-Some.field-0 in
     let answer : next i ≡ told (Ok c.in-Ok.next) = ap (λ o. told (Ok o)) (sym c.in-Some.is) in
-    let on : c.next-command.new.self.place ≡ c.loop-next.reader.place + length (written i) =
+    let on : c.next_command.new.self.place ≡ c.loop-next.reader.place + length (written i) =
     h.place ∙ ap (λ a. c.loop-next.reader.place + length (taken a)) (sym answer) in
     let command : next i ≡ read (drop c.loop-next.reader.place c.loop-next.reader.script.now) = answer ∙ h.command in
     let some = not_empty i in
-    let more : c.loop-next.commands + 1 ≤ c.next-command.new.self.place = omega (arith, inv.1) in (
+    let more : c.loop-next.commands + 1 ≤ c.next_command.new.self.place = omega (arith, inv.1) in (
       ap (λ x. x.now) h.script ∙ inv.0,
       more,
-      counted_next c.args.script.now _ _ _ _ i _ (λ k. (c.type-inv.script k).fits) inv.0 command on inv.2,
+      counted_next c.args.script.now _ _ _ _ i _ (λ k. (c.well_formed.script k).fits) inv.0 command on inv.2,
     )
 
 pub returns : goal.returns
 returns c = record {
   inspection =
       let inv = c.loop-next.invariant in
-      elim c.match-next-command.branch [
+      elim c.match-next_command.branch [
         | in-Ok+in-None w ↦
             let h = w.in-Ok.ensures in
             let answer : told (Ok w.in-Ok.next) ≡ end = ap (λ o. told (Ok o)) w.in-None.is in

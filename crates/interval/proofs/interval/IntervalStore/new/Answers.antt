@@ -6,48 +6,12 @@ use Rattle.interval.specs.IntervalTapes.{interval_blank, no_cells, stands_none, 
 use Rattle.tape.proofs.Promised.{reads_back}
 use Rattle.interval.proofs.interval.IntervalStore.new.Goals as goal
 
-pub invariant-of-result : goal.invariant-of-result
-invariant-of-result c =
-    let p = fits_parts c.args.tracks c.args.capacity (vec_len c.args.memory) (ap (interval_fits c.args.tracks c.args.capacity) (sym c.len.ensures) ∙ sym c.if-enough.ensures) in (
-      p.0,
-      (
-        p.1,
-        (
-          p.2,
-          (
-            p.3,
-            (
-              (refl, refl, refl),
-              (
-                λ t. stands_none _ _ _ _ _ (no_cells 9 t) (no_cells 9 t) (no_cells 9 t),
-                (λ t. noted_none _ _ _ _ _ t (no_cells 9 t) c.new-index.ensures.used c.new-index.ensures.zeros, (λ t k h. omega (arith, c.new-index.ensures.used (mark_of t k)), tt)),
-              ),
-            ),
-          ),
-        ),
-      ),
-    )
+pub invariant_of-result : goal.invariant_of-result
+invariant_of-result c =
+    let p = fits_parts c.args.tracks c.args.capacity (vec_len c.args.memory) (ap (interval_fits c.args.tracks c.args.capacity) (sym c.len.ensures) ∙ sym c.if-enough.ensures) in record { few = p.0; small = p.1; empty = p.2; enough = p.3; nine = (refl, refl, refl); rule = (λ t. stands_none _ _ _ _ _ (no_cells 9 t) (no_cells 9 t) (no_cells 9 t)); noted = (λ t. noted_none _ _ _ _ _ t (no_cells 9 t) c.new-index.ensures.used c.new-index.ensures.zeros); held = (λ t k h. omega (arith, c.new-index.ensures.used (mark_of t k))) }
 
-pub invariant-of-result-else-enough : goal.invariant-of-result-else-enough
-invariant-of-result-else-enough c = (
-  omega arith,
-  (
-    omega arith,
-    (
-      omega arith,
-      (
-        omega arith,
-        (
-          (refl, refl, refl),
-          (
-            λ t. stands_none _ _ _ _ _ (no_cells 9 t) (no_cells 9 t) (no_cells 9 t),
-            (λ t. noted_none _ _ _ _ _ t (no_cells 9 t) c.new-index.ensures.used c.new-index.ensures.zeros, (λ t k h. omega (arith, c.new-index.ensures.used (mark_of t k)), tt)),
-          ),
-        ),
-      ),
-    ),
-  ),
-)
+pub invariant_of-result-else-enough : goal.invariant_of-result-else-enough
+invariant_of-result-else-enough c = record { few = omega arith; small = omega arith; empty = omega arith; enough = omega arith; nine = (refl, refl, refl); rule = (λ t. stands_none _ _ _ _ _ (no_cells 9 t) (no_cells 9 t) (no_cells 9 t)); noted = (λ t. noted_none _ _ _ _ _ t (no_cells 9 t) c.new-index.ensures.used c.new-index.ensures.zeros); held = (λ t k h. omega (arith, c.new-index.ensures.used (mark_of t k))) }
 
 pub returns-then-enough : goal.returns-then-enough
 returns-then-enough c =

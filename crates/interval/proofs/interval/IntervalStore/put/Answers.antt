@@ -20,8 +20,8 @@ loop-i-init c =
 part_length : (i n : ℕ) (xs : List ℕ) → i + n ≤ length xs → length (take (i + n - i) (drop i xs)) ≡ n
 part_length i n xs h = simp (length-take, length-drop) (omega arith)
 
-pub put-part-requires : goal.put-part-requires
-put-part-requires c =
+pub put_part-requires : goal.put_part-requires
+put_part-requires c =
     let s = c.args.self.now in
     let e = c.loop-i.self in
     let i = c.loop-i.invariant in
@@ -29,7 +29,7 @@ put-part-requires c =
     record {
       there = omega (arith, store_length s, store_length e, unspoiled_length c.args.at _ _ _ i.0.0);
       fits = omega (arith, i.0.1, i.1);
-      step = omega (arith, c.to-next-mark.ensures.next);
+      step = omega (arith, c.to_next_mark.ensures.next);
     }
 
 pub loop-i-preserved : goal.loop-i-preserved
@@ -40,12 +40,12 @@ loop-i-preserved c =
     let is : map cell (take (c.loop-i.i + c.min-n.result - c.loop-i.i) (drop c.loop-i.i sent)) ≡ map cell (take c.min-n.result (drop c.loop-i.i sent)) =
     ap (λ (k : ℕ). map cell (take k (drop c.loop-i.i sent))) (omega arith) in (
       (
-        subst (λ (xs : List ℕ). Unspoiled (run c.args.at xs) (interval_store_tape c.args.self.now) (interval_store_tape c.put-part.new.self))
+        subst (λ (xs : List ℕ). Unspoiled (run c.args.at xs) (interval_store_tape c.args.self.now) (interval_store_tape c.put_part.new.self))
             (sym (map-take_then cell c.loop-i.i c.min-n.result sent))
-            (unspoiled_then c.args.at _ _ _ _ _ i.0.0 (subst (λ (xs : List ℕ). Unspoiled (run c.args.at xs) (interval_store_tape c.loop-i.self) (interval_store_tape c.put-part.new.self)) is c.put-part.ensures.takes.0)),
-        c.put-part.ensures.takes.1 ∙ i.0.1,
+            (unspoiled_then c.args.at _ _ _ _ _ i.0.0 (subst (λ (xs : List ℕ). Unspoiled (run c.args.at xs) (interval_store_tape c.loop-i.self) (interval_store_tape c.put_part.new.self)) is c.put_part.ensures.takes.0)),
+        c.put_part.ensures.takes.1 ∙ i.0.1,
       ),
-      omega (arith, i.1, c.put-part.ensures.longer),
+      omega (arith, i.1, c.put_part.ensures.longer),
       omega arith,
     )
 

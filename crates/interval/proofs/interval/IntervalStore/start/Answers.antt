@@ -7,11 +7,11 @@ use Rattle.interval.specs.IntervalTapes.{length_bytes}
 use Rattle.interval.proofs.StrideSteps.{stride_some, mark-inside, behind_at, behind_near}
 use Rattle.interval.proofs.interval.IntervalStore.start.Goals as goal
 
-pub mark-behind-mark-requires : goal.mark-behind-mark-requires
-mark-behind-mark-requires c = record { there = omega arith; inside = omega (arith, (c.args.self.now.rule c.args.at).0) }
+pub mark_behind-mark-requires : goal.mark_behind-mark-requires
+mark_behind-mark-requires c = record { there = omega arith; inside = omega (arith, (c.args.self.now.rule c.args.at).0) }
 
 pub noted-used-requires : goal.noted-used-requires
-noted-used-requires c = c.mark-behind-mark.ensures.within
+noted-used-requires c = c.mark_behind-mark.ensures.within
 
 -- what the index tells of a place: bytes and zeros of the track, the cells that they stand for, and how near those come to the place
 record Told (s : IntervalStore) (t p u z cells : ℕ) : Type 0 where
@@ -40,11 +40,11 @@ told s t p m u z cells h em ec eu ez =
       near = omega (arith, behind_near n some p);
     }
 
-here : (c : goal.After-noted-used) → Told c.args.self.now c.args.at c.args.place c.noted-used.result.0 c.noted-used.result.1 c.mark-behind-mark.result.1
-here c = told c.args.self.now c.args.at c.args.place c.mark-behind-mark.result.0 _ _ _ c.requires.inside c.mark-behind-mark.ensures.mark c.mark-behind-mark.ensures.cells c.noted-used.ensures.used c.noted-used.ensures.zeros
+here : (c : goal.After-noted-used) → Told c.args.self.now c.args.at c.args.place c.noted-used.result.0 c.noted-used.result.1 c.mark_behind-mark.result.1
+here c = told c.args.self.now c.args.at c.args.place c.mark_behind-mark.result.0 _ _ _ c.requires.inside c.mark_behind-mark.ensures.mark c.mark_behind-mark.ensures.cells c.noted-used.ensures.used c.noted-used.ensures.zeros
 
-pub overflow-sub-result : goal.overflow-sub-result
-overflow-sub-result c = let h = here c in omega (arith, h.stand)
+pub overflow_sub-result : goal.overflow_sub-result
+overflow_sub-result c = let h = here c in omega (arith, h.stand)
 
 pub returns : goal.returns
 returns c =

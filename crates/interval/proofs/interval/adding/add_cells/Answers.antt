@@ -5,9 +5,9 @@ use Rattle.interval.specs.Gaps.{Spelled}
 use Rattle.interval.specs.Spelling.{spelled_none, spelled_then}
 use Rattle.interval.proofs.interval.adding.add_cells.Goals as goal
 
-pub add-cell-at-requires : goal.add-cell-at-requires
-add-cell-at-requires c = record {
-  within = omega (arith, length-map (take c.loop-one.one_Index c.args.sent.now) cell, length-take-le c.loop-one.one_Index c.args.sent.now (omega arith));
+pub add_cell-at-requires : goal.add_cell-at-requires
+add_cell-at-requires c = record {
+  within = omega (arith, length-map (take c.loop-one.one-index c.args.sent.now) cell, length-take-le c.loop-one.one-index c.args.sent.now (omega arith));
   short = c.loop-one.invariant.short;
 }
 
@@ -16,11 +16,11 @@ loop-one-init c = spelled_none c.args.used c.args.zeros c.args.bytes.now c.requi
 
 pub loop-one-preserved : goal.loop-one-preserved
 loop-one-preserved c =
-    subst (λ (xs : List _). Spelled c.args.used c.args.zeros c.args.bytes.now xs c.add-cell-at.new.bytes c.add-cell-at.result.0 c.add-cell-at.result.1)
-    (sym (map_more cell c.args.sent.now c.loop-one.one_Index 0 c.loop-one-test.true))
-    (spelled_then _ _ _ _ _ _ _ _ _ _ _ c.loop-one.invariant c.add-cell-at.ensures)
+    subst (λ (xs : List _). Spelled c.args.used c.args.zeros c.args.bytes.now xs c.add_cell-at.new.bytes c.add_cell-at.result.0 c.add_cell-at.result.1)
+    (sym (map_more cell c.args.sent.now c.loop-one.one-index 0 c.loop-one-test.true))
+    (spelled_then _ _ _ _ _ _ _ _ _ _ _ c.loop-one.invariant c.add_cell-at.ensures)
 
 pub returns : goal.returns
 returns c =
     subst (λ (xs : List _). Spelled c.args.used c.args.zeros c.args.bytes.now (map cell xs) c.loop-one.bytes c.loop-one.at.0 c.loop-one.at.1)
-    (take_all c.loop-one.one_Index c.args.sent.now c.loop-one-test.false) c.loop-one.invariant
+    (take_all c.loop-one.one-index c.args.sent.now c.loop-one-test.false) c.loop-one.invariant

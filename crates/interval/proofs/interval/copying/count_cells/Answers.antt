@@ -5,8 +5,8 @@ use Rattle.interval.specs.Intervals.{gap}
 use Rattle.interval.specs.GapReads.{length_byte}
 use Rattle.interval.proofs.interval.copying.count_cells.Goals as goal
 
-pub overflow-add-cells : goal.overflow-add-cells
-overflow-add-cells c = let i = c.loop-byte.invariant in omega (arith, i.1)
+pub overflow_add-cells : goal.overflow_add-cells
+overflow_add-cells c = let i = c.loop-byte.invariant in omega (arith, i.1)
 
 pub loop-byte-init : goal.loop-byte-init
 loop-byte-init c = (refl, omega arith)
@@ -14,7 +14,7 @@ loop-byte-init c = (refl, omega arith)
 pub loop-byte-preserved : goal.loop-byte-preserved
 loop-byte-preserved c =
     let i = c.loop-byte.invariant in
-    let more = length_byte c.loop-byte.byte-index c.args.bytes.now c.loop-byte-test.true (omega (arith, c.type-inv.bytes c.loop-byte.byte-index)) in
+    let more = length_byte c.loop-byte.byte-index c.args.bytes.now c.loop-byte-test.true (omega (arith, c.type_inv.bytes c.loop-byte.byte-index)) in
     (omega (arith, i.0, more), omega (arith, i.1))
 
 pub returns : goal.returns

@@ -11,4 +11,4 @@ loop-passed-preserved c =
     let b = c.args.bytes.now in
     let wide : p + 256 - p ≡ 256 = omega arith in
     let part = ap (λ (k : ℕ). length (flat_map gap (take k (drop p b)))) wide in
-    (omega arith, omega (arith, i.1, c.count-cells.ensures, part, length_then p 256 b), c.if-next-place.false)
+    (omega arith, omega (arith, i.1, c.count_cells.ensures, part, length_then p 256 b), c.if-next-place.false)

@@ -3,8 +3,8 @@ use Rattle.interval.specs.Marks.{mark_stride}
 use Rattle.interval.proofs.StrideSteps.{stride_some, behind_at, mark-inside}
 use Rattle.interval.proofs.interval.index.mark_behind.Goals as goal
 
-pub nonzero-div-k : goal.nonzero-div-k
-nonzero-div-k c = omega (arith, stride_some c.args.capacity)
+pub nonzero_div-k : goal.nonzero_div-k
+nonzero_div-k c = omega (arith, stride_some c.args.capacity)
 
 pub returns : goal.returns
 returns c =

@@ -9,7 +9,7 @@ unfolding packed_cell
 loop-i-preserved c =
     below_more _ _
     (λ k h. let ne : k ≢ c.loop-i.i = omega arith in rw get_or-set_other (c.loop-i.invariant k h))
-    (let lt : c.loop-i.i < length c.loop-i.out = omega arith in rw get_or-set_same c.bit-of.ensures)
+    (let lt : c.loop-i.i < length c.loop-i.out = omega arith in rw get_or-set_same c.bit_of.ensures)
 
 pub returns : goal.returns
 returns c =

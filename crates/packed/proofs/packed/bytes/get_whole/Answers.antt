@@ -11,11 +11,11 @@ pub loop-k-preserved : goal.loop-k-preserved
 loop-k-preserved c i h =
     let k = c.loop-k.k in
     let b : ℕ = get_or c.args.bytes.now (c.args.base + c.args.place / 8 + k) 0 in
-    let is : c.copy-from-slice.new.self ≡ map (bit b) (range_with_len 0 8) = c.copy-from-slice.ensures.after ∙ c.unpacked8-cells.ensures in
-    let l : length c.copy-from-slice.new.self ≡ 8 = ap length is in
+    let is : c.copy_from_slice.new.self ≡ map (bit b) (range_with_len 0 8) = c.copy_from_slice.ensures.after ∙ c.unpacked8-cells.ensures in
+    let l : length c.copy_from_slice.new.self ≡ 8 = ap length is in
     elim (cases_lt i (8 * k)) [
-      | inl q ↦ getD_before (8 * k) (8 * k + 8 - 8 * k) c.loop-k.out c.copy-from-slice.new.self (omega arith) i q ∙ c.loop-k.invariant i q
-      | inr q ↦ get_d_part (8 * k) (8 * k + 8 - 8 * k) c.loop-k.out c.copy-from-slice.new.self (omega arith) i q (omega arith)
+      | inl q ↦ getD_before (8 * k) (8 * k + 8 - 8 * k) c.loop-k.out c.copy_from_slice.new.self (omega arith) i q ∙ c.loop-k.invariant i q
+      | inr q ↦ get_d_part (8 * k) (8 * k + 8 - 8 * k) c.loop-k.out c.copy_from_slice.new.self (omega arith) i q (omega arith)
           ∙ (ap (λ (xs : List ℕ). get_or xs (i - 8 * k) 0) is ∙ byte_cells c.args.bytes.now c.args.base c.args.place k i c.requires.begins q h)
     ]
 

@@ -6,22 +6,22 @@ use Rattle.tape.proofs.Tapes.{unspoiled_track}
 use Rattle.interval.specs.IntervalTapes.{interval_length, interval_track, length_stored}
 use Rattle.interval.proofs.interval.store.IntervalStoreRecording.append.Goals as goal
 
-pub overflow-sub-self : goal.overflow-sub-self
-overflow-sub-self c =
+pub overflow_sub-self : goal.overflow_sub-self
+overflow_sub-self c =
     let s = c.args.self.now in
-    let told = length_stored s c.args.at c.in-ok-length.field-0 c.in-ok-length.ensures in
+    let told = length_stored s c.args.at c.in_ok-length.field-0 c.in_ok-length.ensures in
     omega (arith, told.1, (s.rule c.args.at).0)
 
 pub put-requires : goal.put-requires
 put-requires c =
     let s = c.args.self.now in
-    let told = length_stored s c.args.at c.in-ok-length.field-0 c.in-ok-length.ensures in
+    let told = length_stored s c.args.at c.in_ok-length.field-0 c.in_ok-length.ensures in
     record { there = told.0; fits = omega (arith, told.1, (s.rule c.args.at).0) }
 
 pub returns : goal.returns
 returns c =
     let s = c.args.self.now in
-    let told = length_stored s c.args.at c.in-ok-length.field-0 c.in-ok-length.ensures in
+    let told = length_stored s c.args.at c.in_ok-length.field-0 c.in_ok-length.ensures in
     let r = s.rule c.args.at in
     let n = interval_length s.memory.items s.tracks s.capacity s.used s.zeros in
     let l = ap length (interval_track s.memory.items s.tracks s.capacity s.used s.zeros c.args.at told.0) in

@@ -17,7 +17,7 @@ returns c =
     record {
       answer = subst (λ (t : ℕ). Ok tt ≡ read_answer (odd_tape s) t c.args.place n) (sym zero) (accepted 0 1 (c.args.place + n) (length (odd_cells s)) (Ok tt) (Err PastEnd) (Err NoTrack) (omega arith) (omega arith));
       buffer =
-          c.copy-from-slice.ensures.after
+          c.copy_from_slice.ensures.after
           ∙ (ap (λ (m : ℕ). take m (drop c.args.place s.cells)) eq
           ∙ (sym (part_front s.cells s.used c.args.place n (omega arith))
           ∙ ap (λ (t : ℕ). take n (drop c.args.place (track (odd_tape s) t))) (sym zero)));

@@ -42,13 +42,13 @@ module _ (s : OddTape) (sent out : List ℕ) (is : out ≡ thinned s.passed (map
       let long = length-take-le (s.used + length sent) filled (omega (arith, filled_length)) in
       subst Cell (get_or-take (s.used + length sent) filled i 0 h) (All-get_or Cell (take (s.used + length sent) filled) i 0 (omega arith) all)
 
-pub invariant-of-self : goal.invariant-of-self
+pub invariant_of-self : goal.invariant_of-self
 unfolding filled
-invariant-of-self c =
+invariant_of-self c =
     let s = c.args.self.now in
     let sent : List ℕ = c.args.sent.now in
     let out : List ℕ = c.thin-self.new.out in
-    (filled_length s sent out c.thin-self.ensures.cells (omega arith), (omega arith, (filled_binary s sent out c.thin-self.ensures.cells (omega arith), (c.thin-self.ensures.third, tt))))
+    record { places = filled_length s sent out c.thin-self.ensures.cells (omega arith); inside = omega arith; binary = filled_binary s sent out c.thin-self.ensures.cells (omega arith); third = c.thin-self.ensures.third }
 
 pub returns : goal.returns
 unfolding filled

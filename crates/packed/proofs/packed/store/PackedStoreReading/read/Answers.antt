@@ -10,7 +10,7 @@ use Rattle.packed.proofs.packed.store.PackedStoreReading.read.Goals as goal
 pub get-requires : goal.get-requires
 get-requires c =
     let s = c.args.self.now in
-    let told = length_stored s c.args.at c.in-ok-length.field-0 c.in-ok-length.ensures in
+    let told = length_stored s c.args.at c.in_ok-length.field-0 c.in_ok-length.ensures in
     let fits = s.inside c.args.at in
     record {
       small = omega (arith, told.1);
@@ -20,7 +20,7 @@ get-requires c =
 pub returns : goal.returns
 returns c =
     let s = c.args.self.now in
-    let told = length_stored s c.args.at c.in-ok-length.field-0 c.in-ok-length.ensures in
+    let told = length_stored s c.args.at c.in_ok-length.field-0 c.in_ok-length.ensures in
     let n = packed_length s.memory.items s.tracks s.capacity s.used in
     let m = packed_track_length s.memory.items s.tracks s.capacity s.used c.args.at told.0 in
     record {
