@@ -9,35 +9,35 @@ use Rattle.deck.proofs.SentCells.{whole_full}
 use Rattle.deck.proofs.rewriting.follow.Invariants.{medium}
 use Rattle.deck.proofs.rewriting.follow.Goals as goal
 
-pub send-copy-requires : goal.send-copy-requires
-send-copy-requires g c =
+pub send_copy-requires : goal.send_copy-requires
+send_copy-requires g c =
     let cells = g.C.Reading.cells c.args.cartridge.now in
     let long : length (track cells c.args.on) ≡ end_place cells = ap (λ (t : ℕ). length (track cells t)) c.requires.ends ∙ sym (end_place-is cells) in
     record { there = c.requires.there; fits = omega (arith, c.requires.fits) }
 
 pub loop-writing-init : goal.loop-writing-init
-loop-writing-init g c = pairs_first (medium g) (held c.args.pending.now) (held c.args.new.now) c.args.on c.send-copy.new.cartridge
+loop-writing-init g c = pairs_first (medium g) (held c.args.pending.now) (held c.args.new.now) c.args.on c.send_copy.new.cartridge
 
 pub loop-writing-preserved : goal.loop-writing-preserved
 loop-writing-preserved g c s on sent =
     let N = held c.args.pending.now in
     let M = held c.args.new.now in
-    pairs_again (medium g) N M (whole_full N.content c.whole.ensures) (whole_full M.content c.whole-2.ensures) s c.args.on c.loop-writing.-writing c.loop-writing.cartridge c.send-pair.new.cartridge on c.loop-writing-test.true (c.loop-writing.invariant s on sent) c.if-stands-back.ensures c.send-pair.ensures.sent
+    pairs_again (medium g) N M (whole_full N.content c.whole.ensures) (whole_full M.content c.whole-2.ensures) s c.args.on c.loop-writing._writing c.loop-writing.cartridge c.send_pair.new.cartridge on c.loop-writing-test.true (c.loop-writing.invariant s on sent) c.if-stands_back.ensures c.send_pair.ensures.sent
 
-pub send-pair-requires : goal.send-pair-requires
-send-pair-requires g c =
+pub send_pair-requires : goal.send_pair-requires
+send_pair-requires g c =
     let N = held c.args.pending.now in
     let M = held c.args.new.now in
     let s = c.args.cartridge.now in
-    let w = pairs_fit (medium g) N M (whole_full N.content c.whole.ensures) (whole_full M.content c.whole-2.ensures) s c.args.on c.loop-writing.-writing c.loop-writing.cartridge c.requires.ends c.requires.there c.requires.fits c.loop-writing-test.true (c.loop-writing.invariant s c.requires.ends c.send-copy.ensures.sent) in
+    let w = pairs_fit (medium g) N M (whole_full N.content c.whole.ensures) (whole_full M.content c.whole-2.ensures) s c.args.on c.loop-writing._writing c.loop-writing.cartridge c.requires.ends c.requires.there c.requires.fits c.loop-writing-test.true (c.loop-writing.invariant s c.requires.ends c.send_copy.ensures.sent) in
     record { there = w.0; fits = w.1 }
 
-pub returns-then-stands-back : goal.returns-then-stands-back
-returns-then-stands-back g c =
+pub returns-then-stands_back : goal.returns-then-stands_back
+returns-then-stands_back g c =
     let N = held c.args.pending.now in
     let M = held c.args.new.now in
     let s = c.args.cartridge.now in
-    let w = pairs_good (medium g) N M (whole_full N.content c.whole.ensures) (whole_full M.content c.whole-2.ensures) s c.args.on c.loop-writing.-writing c.loop-writing.cartridge c.requires.ends c.loop-writing.auto.-writing-end (c.loop-writing.invariant s c.requires.ends c.send-copy.ensures.sent) c.if-stands-back.ensures in
+    let w = pairs_good (medium g) N M (whole_full N.content c.whole.ensures) (whole_full M.content c.whole-2.ensures) s c.args.on c.loop-writing._writing c.loop-writing.cartridge c.requires.ends c.loop-writing.auto._writing-end (c.loop-writing.invariant s c.requires.ends c.send_copy.ensures.sent) c.if-stands_back.ensures in
     record { sent = w.sent; answer = w.answer }
 
 pub returns : goal.returns
@@ -45,7 +45,7 @@ returns g c =
     let N = held c.args.pending.now in
     let M = held c.args.new.now in
     let s = c.args.cartridge.now in
-    let all : c.loop-writing.-writing ≡ more_writings = omega (arith, c.loop-writing-test.false, c.loop-writing.auto.-writing-end) in
-    let p = subst (λ (j : ℕ). Pairs (medium g) N M s j c.loop-writing.cartridge) all (c.loop-writing.invariant s c.requires.ends c.send-copy.ensures.sent) in
-    let w = pairs_last (medium g) N M (whole_full N.content c.whole.ensures) (whole_full M.content c.whole-2.ensures) s c.args.on c.loop-writing.cartridge c.stands-back-2.result c.requires.ends p c.stands-back-2.ensures in
+    let all : c.loop-writing._writing ≡ more_writings = omega (arith, c.loop-writing-test.false, c.loop-writing.auto._writing-end) in
+    let p = subst (λ (j : ℕ). Pairs (medium g) N M s j c.loop-writing.cartridge) all (c.loop-writing.invariant s c.requires.ends c.send_copy.ensures.sent) in
+    let w = pairs_last (medium g) N M (whole_full N.content c.whole.ensures) (whole_full M.content c.whole-2.ensures) s c.args.on c.loop-writing.cartridge c.stands_back-2.result c.requires.ends p c.stands_back-2.ensures in
     record { sent = w.sent; answer = w.answer }

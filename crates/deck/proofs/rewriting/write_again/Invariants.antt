@@ -7,4 +7,4 @@ abbrev pub medium : (g : goal.Over) → Medium g.row.C.Denot
 medium g = record { cells = g.C.Reading.cells; room = g.C.Reading.room; takes = g.C.Reading.takes; few = g.met.C.Reading.few; binary = g.met.C.Reading.binary; grows = g.met.C.Reading.grows; keeps = g.met.C.Reading.keeps }
 
 abbrev pub invariant-loop-writing : goal.invariant-loop-writing
-invariant-loop-writing g l = Lone (medium g) (held l.pending) l.initial.cartridge l.-writing l.-writing l.cartridge
+invariant-loop-writing g l = Lone (medium g) (held l.pending) l.initial.cartridge l._writing l._writing l.cartridge

@@ -6,7 +6,7 @@ use Rattle.deck.proofs.wholeness.whole.Goals as goal
 
 pub returns-in-Block : goal.returns-in-Block
 returns-in-Block c =
-    ap (λ (x : Content). length (data_cells x)) (sym c.content.ensures ∙ c.in-Block.is) ∙ (length-coded c.in-Block.bytes ∙ omega (arith, c.whole-block.ensures))
+    ap (λ (x : Content). length (data_cells x)) (sym c.content.ensures ∙ c.in-Block.is) ∙ (length-coded c.in-Block.bytes ∙ omega (arith, c.whole_block.ensures))
 
 pub returns-in-Mark : goal.returns-in-Mark
 returns-in-Mark c = ap (λ (x : Content). length (data_cells x)) (sym c.content.ensures ∙ c.in-Mark.is) ∙ length-mark_data

@@ -15,4 +15,4 @@ returns-in-Item g c =
     let found : found_item (placed c.in-Item.place (held c.in-Item.item)) ≡ next_found (g.C.Reading.cells c.args.self.now.cartridge) c.args.self.now.cursor = search rules in
     let goes : c.in-Item.after ≡ cursor_after c.args.self.now.cursor (next_found (g.C.Reading.cells c.args.self.now.cartridge) c.args.self.now.cursor) = search rules in
     let all = item-next (g.C.Reading.cells c.args.self.now.cartridge) c.args.self.now.cursor (deck_state c.args.self.now.session) c.args.block.now c.in-Item.place c.in-Item.item c.in-Item.after idle enough found goes in
-    record { answer = rw (all, c.hand-out.ensures.answer); buffer = rw (all, c.hand-out.ensures.buffer); deck = rw all }
+    record { answer = rw (all, c.hand_out.ensures.answer); buffer = rw (all, c.hand_out.ensures.buffer); deck = rw all }

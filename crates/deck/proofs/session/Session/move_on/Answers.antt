@@ -13,13 +13,13 @@ use Rattle.deck.proofs.CallRuns.{past-end_track}
 use Rattle.deck.proofs.TakenItems.{more-tracks, unchecked_number, room-enough, room-short, room-not-short, moved_none, moved}
 use Rattle.deck.proofs.session.Session.move_on.Goals as goal
 
-pub change-track-requires : goal.change-track-requires
-change-track-requires g c =
+pub change_track-requires : goal.change_track-requires
+change_track-requires g c =
     let m = c.args.cartridge.now in
     let room = g.C.Reading.room m in
     let cells = g.C.Reading.cells m in
     let more = more-tracks room cells c.requires.more in
-    let fits = room-enough room finish_room cells c.args.on c.requires.ends (omega (arith, c.room-left.ensures, c.if-room-left-ge-FINISH-ROOM.true)) (omega arith) in
+    let fits = room-enough room finish_room cells c.args.on c.requires.ends (omega (arith, c.room_left.ensures, c.if-room_left-ge-FINISH_ROOM.true)) (omega arith) in
     record { next = omega (arith, c.requires.ends, more.1); ends = c.requires.ends; fits = fits; roomy = more.0 }
 
 pub start-requires : goal.start-requires
@@ -31,31 +31,31 @@ start-requires g c =
     let none : track cells (c.args.on + 1) ≡ _ = past-end_track cells (c.args.on + 1) (omega (arith, c.requires.ends)) in
     record { there = omega (arith, c.requires.ends, more.1); fits = omega (arith, more.0, ap length none) }
 
-pub returns-then-room-left-ge-FINISH-ROOM : goal.returns-then-room-left-ge-FINISH-ROOM
-returns-then-room-left-ge-FINISH-ROOM g c =
+pub returns-then-room_left-ge-FINISH_ROOM : goal.returns-then-room_left-ge-FINISH_ROOM
+returns-then-room_left-ge-FINISH_ROOM g c =
     let m = c.args.cartridge.now in
-    let e = c.change-track.new.cartridge in
+    let e = c.change_track.new.cartridge in
     let room = g.C.Reading.room m in
     let cells = g.C.Reading.cells m in
     let good = stands (g.C.Reading.cells e) in
     let s = numbers_of c.args.self.now in
     let N = held c.in-Some.pending in
     let M = held c.args.new.now in
-    let b = c.change-track.result in
-    let enough = room-not-short room finish_room cells c.args.on c.requires.ends (omega (arith, c.room-left.ensures, c.if-room-left-ge-FINISH-ROOM.true)) in
-    let sent = subst (λ (t : ℕ). Sends g.C.Reading.takes m (finish_runs room cells (last_copy cells N) (alone_failures room cells good (last_copy cells N)) ++ cond b (copy_run (first_preamble cells (suc t)) (first_on room cells (suc t) M) ∷ []) []) e) c.requires.ends c.change-track.ensures.sent in
+    let b = c.change_track.result in
+    let enough = room-not-short room finish_room cells c.args.on c.requires.ends (omega (arith, c.room_left.ensures, c.if-room_left-ge-FINISH_ROOM.true)) in
+    let sent = subst (λ (t : ℕ). Sends g.C.Reading.takes m (finish_runs room cells (last_copy cells N) (alone_failures room cells good (last_copy cells N)) ++ cond b (copy_run (first_preamble cells (suc t)) (first_on room cells (suc t) M) ∷ []) []) e) c.requires.ends c.change_track.ensures.sent in
     subst (λ (u : Option Numbered). Had g.C.Reading.takes m e (written_state s M b) (written_answer s b) (moves_on room cells good s u M)) c.in-Some.ensures
-    (moved g.C.Reading.takes m room cells good s N M e b (unchecked_number s.next c.args.self.now.phase N c.in-Some.ensures) enough c.change-track.ensures.answer sent)
+    (moved g.C.Reading.takes m room cells good s N M e b (unchecked_number s.next c.args.self.now.phase N c.in-Some.ensures) enough c.change_track.ensures.answer sent)
 
-pub returns-else-room-left-ge-FINISH-ROOM : goal.returns-else-room-left-ge-FINISH-ROOM
-returns-else-room-left-ge-FINISH-ROOM g c =
+pub returns-else-room_left-ge-FINISH_ROOM : goal.returns-else-room_left-ge-FINISH_ROOM
+returns-else-room_left-ge-FINISH_ROOM g c =
     let m = c.args.cartridge.now in
     let room = g.C.Reading.room m in
     let cells = g.C.Reading.cells m in
     let s = numbers_of c.args.self.now in
     let N = held c.in-Some.pending in
     let M = held c.args.new.now in
-    let b = leb 83220 c.room-left.result in
-    let short = room-short room finish_room cells c.args.on c.requires.ends (omega (arith, c.room-left.ensures, c.if-room-left-ge-FINISH-ROOM.false)) in
+    let b = leb 83220 c.room_left.result in
+    let short = room-short room finish_room cells c.args.on c.requires.ends (omega (arith, c.room_left.ensures, c.if-room_left-ge-FINISH_ROOM.false)) in
     subst (λ (u : Option Numbered). Had g.C.Reading.takes m m (written_state s M b) (written_answer s b) (moves_on room cells (stands cells) s u M)) c.in-Some.ensures
-    (moved_none g.C.Reading.takes m room cells (stands cells) s N M b (lt-leb 83220 c.room-left.result c.if-room-left-ge-FINISH-ROOM.false) short)
+    (moved_none g.C.Reading.takes m room cells (stands cells) s N M b (lt-leb 83220 c.room_left.result c.if-room_left-ge-FINISH_ROOM.false) short)
