@@ -19,12 +19,12 @@ returns g c =
     let made = c.new-deck.result.cartridge in
     let middle = c.operate-one.new.deck.cartridge in
     let end = c.operate-two.new.deck.cartridge in
-    let last = c.in-Ok-into-cartridge.cartridge in
-    let out : last ≡ end = taken_out c.operate-two.new.deck last c.operate-two.ensures.idle c.in-Ok-into-cartridge.ensures in
+    let last = c.in-Ok-into_cartridge.cartridge in
+    let out : last ≡ end = taken_out c.operate-two.new.deck last c.operate-two.ensures.idle c.in-Ok-into_cartridge.ensures in
     let h : OfCartridge (cells last) = record { few = g.met.C.Reading.few last; binary = g.met.C.Reading.binary last } in
     record {
       operators = in_turn room cells start made middle end last one a two b c.new-deck.ensures.cartridge c.operate-one.ensures.made c.operate-one.ensures.same c.operate-two.ensures.made out;
       capacity = same_room room start made middle end last c.new-deck.ensures.cartridge c.operate-one.ensures.same c.operate-two.ensures.same out;
-      replay = c.replay-all-replay.ensures;
-      kept = IfOk-weaker c.replay-all-replay.result (λ p. Replays p (tape_replay (cells last))) (λ p. KeptThenEnd (room start) (cells start) one a two b (cells last) p) (λ p. kept_then_end (room start) (cells start) one a two b (cells last) p h) c.replay-all-replay.ensures;
+      replay = c.replay_all-replay.ensures;
+      kept = IfOk-weaker c.replay_all-replay.result (λ p. Replays p (tape_replay (cells last))) (λ p. KeptThenEnd (room start) (cells start) one a two b (cells last) p) (λ p. kept_then_end (room start) (cells start) one a two b (cells last) p h) c.replay_all-replay.ensures;
     }

@@ -18,16 +18,16 @@ loop-call-init g c =
 pub loop-call-preserved : goal.loop-call-preserved
 loop-call-preserved g c =
     let before = c.loop-call.deck in
-    let after = c.make-call-left.new.deck in
+    let after = c.make_call-left.new.deck in
     let calls = c.args.calls.now in
     let i = c.loop-call.call-index in
     let w = c.loop-call.invariant.0 in
     let few : vec_len c.loop-call.answers < vec_capacity c.loop-call.answers = omega (arith, c.loop-call.answers.ok.0, w.each, length-take-le i calls (omega (arith, c.loop-call-test.true)), c.loop-call-test.true, c.loop-call.invariant.3) in
     let pushed = chosen _ _ _ _ c.push.ensures.items (c.push.ensures.succeeds few) in
-    let more = more_made (medium g) c.args.deck.now.cartridge before.cartridge after.cartridge (deck_state before.session) (deck_state after.session) (take i calls) (vec_items c.loop-call.answers) (get_or calls i Begin) c.make-call-left.result.1 c.loop-call.invariant.2 w c.make-call-left.ensures.had in (
+    let more = more_made (medium g) c.args.deck.now.cartridge before.cartridge after.cartridge (deck_state before.session) (deck_state after.session) (take i calls) (vec_items c.loop-call.answers) (get_or calls i Begin) c.make_call-left.result.1 c.loop-call.invariant.2 w c.make_call-left.ensures.had in (
       rw (take_more calls i Begin c.loop-call-test.true, pushed) more,
-      c.make-call-left.ensures.paired,
-      call-room (medium g) before.cartridge after.cartridge (deck_state before.session) (deck_state after.session) (call_of (get_or calls i Begin)) (answer_of c.make-call-left.result.1) c.make-call-left.ensures.had ∙ c.loop-call.invariant.2,
+      c.make_call-left.ensures.paired,
+      call-room (medium g) before.cartridge after.cartridge (deck_state before.session) (deck_state after.session) (call_of (get_or calls i Begin)) (answer_of c.make_call-left.result.1) c.make_call-left.ensures.had ∙ c.loop-call.invariant.2,
       omega (arith, c.loop-call.invariant.3, c.push.ensures.capacity),
     )
 

@@ -17,14 +17,14 @@ pub returns : goal.returns
 unfolding medium
 returns g c =
     let first = c.args.deck.now in
-    let before = c.make-calls.new.deck in
+    let before = c.make_calls.new.deck in
     let s = deck_state before.session in
     let calls = c.args.calls.now in
-    let o : Operated = record { answers = c.make-calls.new.answers; closing = c.match-make-calls.closing } in
-    let paired = c.make-calls.ensures.paired in
-    let made = c.make-calls.ensures.made in
-    let same = c.make-calls.ensures.same in
-    elim c.match-make-calls.branch [
+    let o : Operated = record { answers = c.make_calls.new.answers; closing = c.match-make_calls.closing } in
+    let paired = c.make_calls.ensures.paired in
+    let made = c.make_calls.ensures.made in
+    let same = c.make_calls.ensures.same in
+    elim c.match-make_calls.branch [
       | in-Some w ↦
           let after = w.close.new.deck in
           let t = deck_state after.session in

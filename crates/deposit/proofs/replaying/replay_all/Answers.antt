@@ -14,7 +14,7 @@ use Rattle.deposit.proofs.replaying.replay_all.Goals.{in-Ok+in-End, in-Err}
 pub loop-found-init : goal.loop-found-init
 loop-found-init g c =
     let s = g.C.Reading.cells c.args.cartridge.now in
-    subst (λ (k : ReplayCursor). ReplaysFrom s (map held (vec_items c.new-items.result)) k.expected k.from) (sym c.rewound_cursor.ensures)
+    subst (λ (k : ReplayCursor). ReplaysFrom s (map held (vec_items c.new-items.result)) k.expected k.from) (sym c.rewound-cursor.ensures)
     (subst (λ (xs : List Item). ReplaysFrom s (map held xs) 1 tape_start) (sym c.new-items.ensures.items) (replays_from_start s))
 
 of_cartridge : (g : given.Over) (s : g.row.C.Denot) → OfCartridge (g.C.Reading.cells s)
@@ -31,7 +31,7 @@ loop-found-preserved g c =
     let s = c.args.cartridge.now in
     let i = c.in-Item in
     let xs = vec_items c.loop-found.items in
-    let pushed = last-kept c.push.result c.in-ok-push.field-0 xs (vec_items c.push.new.self) i.item c.in-ok-push.was c.push.ensures.items in
+    let pushed = last-kept c.push.result c.in_ok-push-in-Item.field-0 xs (vec_items c.push.new.self) i.item c.in_ok-push-in-Item.was c.push.ensures.items in
     subst (λ (ys : List Item). ReplaysFrom (g.C.Reading.cells s) (map held ys) i.after.expected i.after.from) (sym pushed)
     (more-replayed (g.C.Reading.cells s) (of_cartridge g s) c.loop-found.cursor c.in-Ok.found i.place i.item i.after i.is c.in-Ok.ensures.answer c.in-Ok.ensures.after xs c.loop-found.invariant)
 
@@ -39,7 +39,7 @@ pub returns : goal.returns
 returns g c =
     let s = g.C.Reading.cells c.args.cartridge.now in
     let k = c.loop-found.cursor in
-    elim c.match-next-item.branch [
+    elim c.match-next_item.branch [
       | in-Ok+in-End w ↦
           let (items, ends) = end-replayed s (vec_items c.loop-found.items) k c.loop-found.invariant w.in-Ok.found w.in-End.passed w.in-End.is w.in-Ok.ensures.answer in
           record { items = items; ends = ap end_found w.ending-is ∙ ends }

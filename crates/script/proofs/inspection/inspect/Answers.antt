@@ -20,7 +20,7 @@ loop-next-preserved c =
     let more : c.loop-next.commands + 1 ≤ c.next_command.new.self.place = omega (arith, inv.1) in (
       ap (λ x. x.now) h.script ∙ inv.0,
       more,
-      counted_next c.args.script.now _ _ _ _ i _ (λ k. (c.well_formed.0 k).fits) inv.0 command on inv.2,
+      counted_next c.args.script.now _ _ _ _ i _ (λ k. let f = c.type_inv.script k in omega arith) inv.0 command on inv.2,
     )
 
 pub returns : goal.returns

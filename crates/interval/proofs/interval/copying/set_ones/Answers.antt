@@ -9,11 +9,11 @@ loop-byte-init c = set_none c.args.bytes.now c.args.place _ (length c.args.out.n
 pub loop-byte-preserved : goal.loop-byte-preserved
 loop-byte-preserved c = elim c.if-byte-lt255.branch [
   | then-byte-lt255 w ↦ rw (w.begin-is, w.out-is) (set_one _ _ _ _ _ _ c.loop-byte.invariant w.set_one.new.out c.loop-byte-test.true w.if-byte-lt255.true (omega arith) w.set_one.ensures)
-  | else-byte-lt255 w ↦ rw (w.begin-is, w.out-is) (set_full _ _ _ _ _ _ c.loop-byte.invariant c.loop-byte-test.true (omega (arith, c.well_formed.0 c.loop-byte.byte-index)))
+  | else-byte-lt255 w ↦ rw (w.begin-is, w.out-is) (set_full _ _ _ _ _ _ c.loop-byte.invariant c.loop-byte-test.true (omega (arith, c.type_inv.bytes c.loop-byte.byte-index)))
 ]
 
 pub returns-after-loop-byte : goal.returns-after-loop-byte
 returns-after-loop-byte c k h = set_all _ _ _ _ _ _ c.loop-byte.invariant c.loop-byte-test.false k (omega arith)
 
 pub returns-then-one-end : goal.returns-then-one-end
-returns-then-one-end c k h = set_past _ _ _ _ _ _ c.loop-byte.invariant c.loop-byte-test.true (omega (arith, c.well_formed.0 c.loop-byte.byte-index)) c.if-one-end.true k (omega arith)
+returns-then-one-end c k h = set_past _ _ _ _ _ _ c.loop-byte.invariant c.loop-byte-test.true (omega (arith, c.type_inv.bytes c.loop-byte.byte-index)) c.if-one-end.true k (omega arith)
