@@ -5,6 +5,7 @@
 ghost use Rattle.std.specs.Prelude.{◌≡◌, ◌≤◌, [], ◌∷◌, ◌++◌, Some, None};
 ghost use Rattle.qic24.specs.Cells.{nibble_cells};
 ghost use Rattle.qic24.specs.Copy.{address};
+ghost use Rattle.figures.specs.ReplayFigures.{FiguresOfTheReplay};
 ghost use Rattle.figures.specs.Starred.{the_figures, FiguresOfTheFormat};
 
 use qic24::{Content, Item, code_byte, find_opening};
@@ -46,6 +47,7 @@ fn f_c_e() -> &'static [u8; 15]
 pub fn proved_figures() -> Starred
     ensures table { result ≡ the_figures }
     ensures format { FiguresOfTheFormat }
+    ensures replay { FiguresOfTheReplay }
 {
     Starred {
         zero: code_byte(0x00),

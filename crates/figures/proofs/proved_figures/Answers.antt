@@ -11,4 +11,4 @@ returns c =
     let m = c.code-byte-3.ensures in
     let a = c.address-of.ensures (lit≤ tt) (lit≤ tt) in
     let n = none_found c.f_c_e.result.now c.find-opening.result c.f_c_e.ensures c.find-opening.ensures.first in
-    record { table = rw (z, o, m, a, n); format = (refl, refl, refl, refl, refl, none-there) }
+    record { table = rw (z, o, m, a, n); format = (refl, refl, refl, refl, refl, none-there); replay = λ p q r. (refl, refl, refl) }
