@@ -69,7 +69,7 @@ fn show_item(rt: &HostRuntime, item: &Item) -> anyhow::Result<()> {
     Ok(())
 }
 
-fn show_fault(rt: &HostRuntime, fault: CopyFault) -> anyhow::Result<()> {
+pub(crate) fn show_fault(rt: &HostRuntime, fault: CopyFault) -> anyhow::Result<()> {
     match fault {
         CopyFault::TrackEnds => println!(rt; "track ends")?,
         CopyFault::Group(group) => {

@@ -1,14 +1,17 @@
-// How fast the format and the stores are: the names go to standard output, the rates to standard error.
+// How fast the format and the stores are, or, called with the word `decks`, the deck: the names go to standard output, the rates to standard error.
 
 #![tactic(auto)]
 
 use clock::Watch;
+use decks::{interval_deck_rates, packed_deck_rates};
 use interval::IntervalStore;
 use packed::PackedStore;
 use qic24::{BODY, Content, Item, LONGEST, Preamble, decode, encode};
+use std::env;
 use tape::{Reading, Recording};
 
 mod clock;
+mod decks;
 
 // The cells of a copy with a normal preamble, and those before its body.
 const COPY: usize = 5_315;
@@ -159,6 +162,15 @@ fn run(rt: &HostRuntime) -> anyhow::Result<()> {
     interval_rates(rt, &cells[0..COPY])
 }
 
+fn run_decks(rt: &HostRuntime) -> anyhow::Result<()> {
+    packed_deck_rates(rt)?;
+    interval_deck_rates(rt)
+}
+
 fn main(rt: HostRuntime) -> anyhow::Result<()> {
-    run(&rt)
+    if env::args(&rt)?.count() > 1 {
+        run_decks(&rt)
+    } else {
+        run(&rt)
+    }
 }
