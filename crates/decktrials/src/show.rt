@@ -1,17 +1,17 @@
 // Answers as lines.
 use deck::Refusal;
-use qic24::CopyCause;
+use qic24::CopyFault;
 use replay::UnsoundOpening;
 
-fn show_cause(log: &mut String, cause: CopyCause) -> anyhow::Result<()> {
+fn show_cause(log: &mut String, cause: CopyFault) -> anyhow::Result<()> {
     match cause {
-        CopyCause::TrackEnds => write!(log, "track ends")?,
-        CopyCause::Group(group) => write!(log, "group {} {}", group.index, group.cells)?,
-        CopyCause::Mixed => write!(log, "mixed")?,
-        CopyCause::Check => write!(log, "check")?,
-        CopyCause::OtherTrack(track) => write!(log, "other track {track}")?,
-        CopyCause::Control(nibble) => write!(log, "control {nibble}")?,
-        CopyCause::NumberZero => write!(log, "number zero")?,
+        CopyFault::TrackEnds => write!(log, "track ends")?,
+        CopyFault::Group(group) => write!(log, "group {} {}", group.index, group.cells)?,
+        CopyFault::Mixed => write!(log, "mixed")?,
+        CopyFault::Check => write!(log, "check")?,
+        CopyFault::OtherTrack(track) => write!(log, "other track {track}")?,
+        CopyFault::Control(nibble) => write!(log, "control {nibble}")?,
+        CopyFault::NumberZero => write!(log, "number zero")?,
     }
     Ok(())
 }
@@ -19,10 +19,10 @@ fn show_cause(log: &mut String, cause: CopyCause) -> anyhow::Result<()> {
 fn show_unsound(log: &mut String, unsound: UnsoundOpening) -> anyhow::Result<()> {
     write!(
         log,
-        ", unsound on {} at {}, cell {}: ",
-        unsound.place.on, unsound.place.at, unsound.cause.place
+        ", unsound on {} at {}: ",
+        unsound.place.on, unsound.place.at
     )?;
-    show_cause(log, unsound.cause.cause)
+    show_cause(log, unsound.cause)
 }
 
 pub(crate) fn show_refusal(log: &mut String, refusal: Refusal) -> anyhow::Result<()> {
