@@ -1,5 +1,5 @@
 -- Cells as numbers and numbers as cells.
-use Rattle.std.proofs.Common.{◌≡◌, ℕ, zero, suc, ◌+◌, ◌*◌, ◌/◌, ◌%◌, ◌^◌, ◌<◌, ◌≤◌, Bool, true, false, cond, eqb, List, [], ◌∷◌, ◌++◌, map, length, get_or, take, replicate, sym, refl, ap, ◌∙◌, subst, add-zero, add-suc, suc-add, pow-suc, zero-add, add-one, arith, lit<, lit≤}
+use Rattle.std.proofs.Common.{◌≡◌, ℕ, zero, suc, ◌+◌, ◌*◌, ◌/◌, ◌%◌, ◌^◌, ◌<◌, ◌≤◌, eqb, List, [], ◌∷◌, ◌++◌, map, length, get_or, take, replicate, sym, refl, ap, ◌∙◌, subst, add-zero, add-suc, suc-add, pow-suc, zero-add, add-one, arith, lit<, lit≤}
 use native.Mathlib.Nat.{min-le_left}
 use Rattle.std.specs.List.{AllByRecursion as All}
 use Rattle.std.proofs.lemmas.List.{length_push, length-append, append-nil, append_assoc, take_more, take_all, length-take-le, map_more, replicate_more, length-replicate, length-map, length-take}

@@ -1,15 +1,15 @@
 -- The body of a proper item, as entries of the reading table.
-use Rattle.std.proofs.Common.{◌≡◌, ℕ, zero, suc, ◌+◌, ◌*◌, ◌/◌, ◌%◌, ◌^◌, ◌<◌, ◌≤◌, Bool, true, false, cond, ◌&&◌, ◌||◌, eqb, leb, ◌⊎◌, List, [], ◌∷◌, ◌++◌, map, length, get_or, take, drop, replicate, sym, refl, ap, ◌∙◌, subst, inl, inr, ⊎_elim, arith, lit<, lit≤}
+use Rattle.std.proofs.Common.{◌≡◌, ℕ, zero, suc, ◌+◌, ◌<◌, ◌≤◌, false, List, [], ◌∷◌, ◌++◌, map, length, take, replicate, sym, refl, ap, ◌∙◌, arith, lit<}
 use Rattle.std.specs.List.{AllByRecursion as All}
-use Rattle.std.proofs.lemmas.List.{length-append, length-replicate, take_at}
-use Rattle.std.proofs.ByRecursion.{All-append, All-weaker}
-use Rattle.qic24.specs.Cells.{joined, byte_cells, mark_cells}
+use Rattle.std.proofs.lemmas.List.{length-append, length-replicate}
+use Rattle.std.proofs.ByRecursion.{All-weaker}
+use Rattle.qic24.specs.Cells.{joined, mark_cells}
 use Rattle.qic24.specs.Copy.{Numbered, Proper, ProperContent, body, coded, data_cells, mark_data, counted, mark_counts, address, two_bytes, item_crc}
 use Rattle.qic24.specs.Decode.{marks_in, byte_of, mixed, content_in}
 use Rattle.qic24.specs.declared.item.Content.{Content}
 use Rattle.qic24.specs.declared.item.Content.TheVariants.{Block, Mark}
 use Rattle.qic24.proofs.Register.{crc-below}
-use Rattle.qic24.proofs.Entries.{entry-cells, byte_entry, mark-entry, spelled, spelled_append, length_spelled, group_number, plain_bytes, mark-bytes}
+use Rattle.qic24.proofs.Entries.{entry-cells, byte_entry, mark-entry, spelled, spelled_append, group_number, plain_bytes, mark-bytes}
 
 unfoldable pub mark_entries : List ℕ
 mark_entries = replicate 512 256

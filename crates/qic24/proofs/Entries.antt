@@ -1,15 +1,14 @@
 -- A body as 518 groups, each the cells of a table entry.
-use Rattle.std.proofs.Common.{◌≡◌, ℕ, zero, suc, ◌+◌, ◌*◌, ◌/◌, ◌%◌, ◌^◌, ◌<◌, ◌≤◌, Bool, true, false, cond, ◌&&◌, ◌||◌, eqb, ltb, leb, ◌⊎◌, List, [], ◌∷◌, ◌++◌, map, length, get_or, take, drop, replicate, Some, None, Option, sym, refl, ap, ◌∙◌, subst, inl, inr, ⊎_elim, le_of_suc-le-suc, not-suc-le-zero, add-zero, add-suc, suc-add, arith, lit<, lit≤, take-add}
+use Rattle.std.proofs.Common.{◌≡◌, ℕ, zero, suc, ◌+◌, ◌*◌, ◌/◌, ◌%◌, ◌^◌, ◌<◌, ◌≤◌, Bool, true, false, cond, ◌||◌, eqb, ◌⊎◌, List, [], ◌∷◌, ◌++◌, map, length, get_or, take, drop, replicate, Some, None, Option, sym, refl, ap, ◌∙◌, subst, inl, inr, ⊎_elim, le_of_suc-le-suc, not-suc-le-zero, add-zero, add-suc, suc-add, arith, lit<, take-add}
 use Rattle.std.specs.List.{AllByRecursion as All}
-use Rattle.std.proofs.lemmas.List.{append_assoc, append-nil, length-append, length-take-le, length-drop, take_at, drop_at, take-append-drop, map-append}
+use Rattle.std.proofs.lemmas.List.{append_assoc, length-append, length-take-le, length-drop, take_at, drop_at}
 use Rattle.std.proofs.ByRecursion.{All-append, All-take, All-drop}
-use Rattle.std.proofs.lemmas.Bool.{cond_both, cond-true, cond-false, eq-eqb, ne_eqb, eqb-true, eqb-false, or_parts, or_cases, and_parts, cases_Bool}
+use Rattle.std.proofs.lemmas.Bool.{cond_both, cond-true, cond-false, ne_eqb, eqb-true, eqb-false, or_cases}
 use Rattle.qic24.specs.Cells.{joined, bits, number_of, Cell, nibble_codes, nibble_cells, byte_cells, mark_cells}
 use Rattle.qic24.specs.declared.fault.GroupFault.{GroupFault}
-use Rattle.qic24.specs.Decode.{entry, position, groups, first_fault, no_code_at, fault_at, marks_in, byte_of}
-use Rattle.qic24.proofs.Binary.{length_byte, length-bits, bits-binary, bits-number, number_of-bits, number_of-below, mark_cells-is}
-use Rattle.qic24.proofs.Tables.{below, at_below, same_below}
-use Rattle.qic24.proofs.Groups.{code_small, entry-small}
+use Rattle.qic24.specs.Decode.{entry, groups, first_fault, no_code_at, fault_at, marks_in, byte_of}
+use Rattle.qic24.proofs.Binary.{length_byte, bits-binary, bits-number, number_of-below, mark_cells-is}
+use Rattle.qic24.proofs.Tables.{at_below, same_below}
 
 -- the cells of an entry
 unfoldable pub entry-cells : ℕ → List ℕ

@@ -1,14 +1,12 @@
 -- Cells are read as an item exactly when they are that item's.
-use Rattle.std.proofs.Common.{◌≡◌, ℕ, zero, suc, ◌+◌, ◌-◌, ◌*◌, ◌/◌, ◌%◌, ◌<◌, ◌≤◌, Bool, true, false, cond, not, ◌&&◌, ◌||◌, eqb, leb, ◌⊎◌, List, [], ◌∷◌, ◌++◌, map, length, get_or, take, drop, replicate, Some, None, Ok, Err, Option, Result, sym, refl, ap, ◌∙◌, subst, inl, inr, ⊎_elim, zero-add, arith, lit<, lit≤}
+use Rattle.std.proofs.Common.{◌≡◌, ℕ, ◌+◌, ◌-◌, ◌*◌, ◌/◌, ◌%◌, ◌<◌, ◌≤◌, false, ◌&&◌, eqb, leb, List, ◌++◌, map, length, get_or, take, drop, None, Ok, sym, ap, ◌∙◌, subst, ⊎_elim, zero-add, arith, lit≤}
 use Rattle.std.specs.List.{AllByRecursion as All}
-use Rattle.std.proofs.lemmas.List.{append_assoc, length-append, length-map, take_at, take-append-drop, map-append, get_or-append_right, get_or_append_left, get_or-map, length-take}
+use Rattle.std.proofs.lemmas.List.{append_assoc, length-append, length-map, take_at, take-append-drop, map-append, get_or-append_right, get_or-map, length-take}
 use Rattle.std.proofs.ByRecursion.{All-append, All-get_or, All-weaker}
 use Rattle.std.proofs.lemmas.Bool.{cases_lt, ne_eqb, lt-leb, or_from, and_left, and_right}
-use Rattle.qic24.specs.Cells.{Cell}
-use Rattle.qic24.specs.Copy.{Numbered, Proper, ProperContent, body, counted, address, two_bytes, item_crc}
+use Rattle.qic24.specs.Copy.{Numbered, Proper, body, counted, address, two_bytes, item_crc}
 use Rattle.qic24.specs.Crc.{crc}
-use Rattle.qic24.specs.Decode.{decoded, judged, groups, entry, first_fault, no_code_at, marks_in, byte_of, mixed, word_at, number_in, content_in}
-use Rattle.qic24.specs.declared.fault.CopyFault.{CopyFault}
+use Rattle.qic24.specs.Decode.{decoded, judged, groups, entry, first_fault, no_code_at, marks_in, byte_of, word_at, number_in, content_in}
 use Rattle.qic24.proofs.Register.{crc-below}
 use Rattle.qic24.proofs.Judging.{decoded-codes, judged-item}
 use Rattle.qic24.proofs.Entries.{spelled, length_spelled, groups_spelled, group_number, entry_of_number, codes_to, plain_bytes, marks-append}

@@ -1,11 +1,11 @@
 -- Groups of ten cells, one after the other.
-use Rattle.std.proofs.Common.{◌≡◌, ℕ, zero, suc, ◌+◌, ◌*◌, ◌/◌, ◌%◌, ◌<◌, ◌≤◌, Bool, true, false, cond, ◌&&◌, eqb, ltb, leb, List, [], ◌∷◌, ◌++◌, map, length, get_or, take, drop, Some, None, Ok, Err, Result, sym, refl, ap, ◌∙◌, subst, le_of_suc-le-suc, not-suc-le-zero, add-one, arith}
+use Rattle.std.proofs.Common.{◌≡◌, ℕ, zero, suc, ◌+◌, ◌*◌, ◌/◌, ◌%◌, ◌<◌, ◌≤◌, Bool, true, false, cond, ◌&&◌, eqb, ltb, leb, List, [], ◌∷◌, ◌++◌, map, length, get_or, take, drop, Some, Ok, Err, Result, sym, refl, ap, ◌∙◌, le_of_suc-le-suc, not-suc-le-zero, add-one, arith}
 use mir.Val.{bool_byte}
 use Rattle.std.proofs.lemmas.List.{drop-drop, take-map, drop-map, at_drop_more}
 use Rattle.std.proofs.lemmas.Bool.{cond_both, cond-true, cond-false, and_parts, or_parts, ltb-true, eqb-false}
 use Rattle.qic24.specs.declared.fault.GroupFault.{GroupFault}
 use Rattle.qic24.specs.Cells.{number_of, nibble_codes, cell}
-use Rattle.qic24.specs.Decode.{groups, entry, byte_from, position, first_fault, no_code_at, fault_at, marks_in, byte_of}
+use Rattle.qic24.specs.Decode.{groups, entry, byte_from, position, first_fault, no_code_at, fault_at, marks_in}
 
 pub length-groups : (n : ℕ) (c : List ℕ) → length (groups n c) ≡ n
 unfolding groups

@@ -1,9 +1,9 @@
 -- Cells that are read as an item are that item's.
-use Rattle.std.proofs.Common.{◌≡◌, ℕ, zero, suc, ◌+◌, ◌-◌, ◌*◌, ◌/◌, ◌%◌, ◌<◌, ◌≤◌, Bool, true, false, cond, not, ◌&&◌, ◌||◌, eqb, leb, ◌⊎◌, List, [], ◌∷◌, ◌++◌, map, length, get_or, take, drop, replicate, None, Ok, Err, sym, refl, ap, ◌∙◌, subst, inl, inr, ⊎_elim, zero-add, arith, lit<, lit≤}
+use Rattle.std.proofs.Common.{◌≡◌, ℕ, ◌+◌, ◌*◌, ◌/◌, ◌%◌, ◌<◌, ◌≤◌, false, not, ◌&&◌, eqb, leb, List, [], ◌∷◌, ◌++◌, map, length, get_or, take, drop, replicate, None, Ok, sym, refl, ap, ◌∙◌, subst, ⊎_elim, zero-add, arith, lit≤}
 use Rattle.std.specs.List.{AllByRecursion as All}
-use Rattle.std.proofs.lemmas.List.{append_assoc, length-append, length-map, length-drop, length-take-le, take_at, take-append-drop, map-append, get_or-append_right, get_or-drop, get_or-map}
-use Rattle.std.proofs.ByRecursion.{All-append, All-get_or, All-from_get_or, All-take, All-drop, All-weaker}
-use Rattle.std.proofs.lemmas.Bool.{cases_lt, cases_eq, ne_eqb, eq-eqb, le-leb, or_parts, and_cases, eqb-false, eqb-true, cond-true, cond-false, not-false, both_ways}
+use Rattle.std.proofs.lemmas.List.{append_assoc, length-append, length-map, length-drop, length-take-le, take_at, take-append-drop, map-append, get_or-append_right, get_or-drop}
+use Rattle.std.proofs.ByRecursion.{All-get_or, All-from_get_or, All-take, All-weaker}
+use Rattle.std.proofs.lemmas.Bool.{cases_eq, ne_eqb, eq-eqb, le-leb, or_parts, and_cases, eqb-false, eqb-true, cond-true, cond-false, not-false, both_ways}
 use Rattle.qic24.specs.Cells.{Cell}
 use Rattle.qic24.specs.Copy.{Numbered, Proper, ProperContent, body, counted, mark_counts, address, two_bytes, item_crc}
 use Rattle.qic24.specs.Crc.{crc}

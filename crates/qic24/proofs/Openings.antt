@@ -1,5 +1,5 @@
 -- A register of the last fourteen cells shows the opening exactly where one ends.
-use Rattle.std.proofs.Common.{◌≡◌, ℕ, zero, suc, ◌+◌, ◌-◌, ◌*◌, ◌/◌, ◌%◌, ◌^◌, ◌<◌, ◌≤◌, ◌⊎◌, List, [], ◌∷◌, ◌++◌, length, get_or, take, drop, sym, refl, ap, ◌∙◌, subst, inl, inr, ⊎_elim, add_assoc, mul_assoc, mul_comm, add-mul, pow-suc, zero-add, zero-mul, arith, lit<}
+use Rattle.std.proofs.Common.{◌≡◌, ℕ, suc, ◌+◌, ◌-◌, ◌*◌, ◌%◌, ◌^◌, ◌<◌, ◌≤◌, List, [], ◌∷◌, ◌++◌, length, get_or, take, drop, sym, refl, ap, ◌∙◌, subst, ⊎_elim, mul_assoc, mul_comm, add-mul, pow-suc, zero-add, arith, lit<}
 use native.Mathlib.Nat.{pow-le-pow_right}
 use Rattle.std.specs.List.{AllByRecursion as All}
 use Rattle.std.proofs.lemmas.List.{take-append-drop, length-take-le, length-drop, drop-drop, drop-take, take_more, length-take, get_or-drop}
@@ -7,7 +7,7 @@ use Rattle.std.proofs.ByRecursion.{All-take, All-drop, All-get_or}
 use Rattle.std.proofs.lemmas.Bool.{cases_lt}
 use Rattle.std.proofs.lemmas.Nat.{pow_below, mod_low}
 use Rattle.qic24.specs.Cells.{fold, shift_in, number_of, bits, Cell}
-use Rattle.qic24.specs.Opening.{opening, Opens, NoneBetween}
+use Rattle.qic24.specs.Opening.{opening, Opens}
 use Rattle.qic24.proofs.Binary.{fold-append, number_of-below, number_of-push, bits-number}
 
 from-number : (xs : List ℕ) (z : ℕ) → fold shift_in z xs ≡ z * 2 ^ length xs + number_of xs

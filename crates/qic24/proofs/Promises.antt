@@ -1,9 +1,8 @@
 -- The format's promises, from what stands below.
-use Rattle.std.proofs.Common.{◌≡◌, ℕ, zero, suc, ◌<◌, ◌≤◌, ◌↔◌, List, ◌∷◌, ◌++◌, length, take, replicate, Ok, Result, sym, refl, ap, ◌∙◌, arith, lit<}
+use Rattle.std.proofs.Common.{◌≡◌, ℕ, zero, suc, ◌<◌, ◌≤◌, ◌++◌, take, replicate, Ok, Result, sym, refl, ap, ◌∙◌, arith, lit<}
 use Rattle.std.specs.List.{AllByRecursion as All}
 use Rattle.std.proofs.lemmas.List.{take_at, take_all, length-replicate}
-use Rattle.qic24.specs.Copy.{Numbered, Proper, body, item_crc, mark_counts}
-use Rattle.qic24.specs.Decode.{decoded}
+use Rattle.qic24.specs.Copy.{Numbered, Proper, body, mark_counts}
 use Rattle.qic24.specs.Laws.{ReadsExactly, ReadsBack, SameCellsSameItem, MarkIsNoBlock}
 use Rattle.qic24.specs.declared.fault.CopyFault.{CopyFault}
 use Rattle.qic24.specs.declared.item.Content.TheVariants.{Block, Mark}

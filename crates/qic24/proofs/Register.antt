@@ -1,9 +1,9 @@
 -- The register is linear over XOR, so a byte can be fed to it by one look into a table.
-use Rattle.std.proofs.Common.{◌≡◌, ℕ, zero, suc, ◌+◌, ◌*◌, ◌/◌, ◌%◌, ◌^◌, ◌<◌, Bool, true, false, cond, eqb, ◌⊎◌, List, [], ◌∷◌, ◌++◌, map, length, get_or, sym, refl, ap, ◌∙◌, inl, inr, add-zero, zero-mul, arith, lit<}
-use lib.Bits.{bit_and, bit_xor, and_mask, xor_assoc, xor_comm, xor_mod, xor_shr, xor_block, xor_shifted, xor_lt, xor_zero_l, xor_zero_r}
+use Rattle.std.proofs.Common.{◌≡◌, ℕ, zero, suc, ◌*◌, ◌/◌, ◌%◌, ◌<◌, cond, eqb, List, [], ◌∷◌, ◌++◌, length, get_or, sym, refl, ap, ◌∙◌, add-zero, arith, lit<}
+use lib.Bits.{bit_and, bit_xor, and_mask, xor_assoc, xor_comm, xor_mod, xor_shr, xor_block, xor_shifted, xor_lt, xor_zero_r}
 use Rattle.std.specs.List.{AllByRecursion as All}
-use Rattle.std.proofs.lemmas.Bool.{eqb-true, cond_both}
-use Rattle.qic24.specs.Cells.{fold, joined, bits}
+use Rattle.std.proofs.lemmas.Bool.{cond_both}
+use Rattle.qic24.specs.Cells.{fold, bits}
 use Rattle.qic24.specs.Crc.{crc_step, bits_of, crc_from, crc, remainder}
 use Rattle.std.proofs.ByRecursion.{All-append}
 use Rattle.std.proofs.lemmas.List.{append-nil}

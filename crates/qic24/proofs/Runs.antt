@@ -1,17 +1,16 @@
 -- No nine ones in a row: nine cells in a row hold a whole nibble, and every nibble has a zero.
-use Rattle.std.proofs.Common.{◌≡◌, ℕ, zero, suc, ◌+◌, ◌-◌, ◌*◌, ◌/◌, ◌%◌, ◌<◌, ◌≤◌, Bool, true, false, not, ◌&&◌, eqb, ◌⊎◌, List, [], ◌∷◌, ◌++◌, map, length, get_or, take, drop, replicate, sym, refl, ap, ◌∙◌, subst, inl, inr, ⊎_elim, le_of_suc-le-suc, not-suc-le-zero, arith, lit<, lit≤}
+use Rattle.std.proofs.Common.{◌≡◌, ℕ, zero, suc, ◌+◌, ◌-◌, ◌*◌, ◌/◌, ◌<◌, ◌≤◌, not, ◌&&◌, eqb, List, [], ◌∷◌, ◌++◌, length, get_or, take, drop, replicate, sym, refl, ap, ◌∙◌, ⊎_elim, le_of_suc-le-suc, not-suc-le-zero, arith, lit<}
 use Rattle.std.specs.List.{AllByRecursion as All}
-use Rattle.std.proofs.lemmas.List.{append_assoc, length-append, length-take, length-take-le, length-drop, take-append-drop, get_or_append_left, get_or-append_right, get_or-take, get_or-drop, get_or-replicate, ext_get_or}
+use Rattle.std.proofs.lemmas.List.{append_assoc, length-take, length-take-le, length-drop, take-append-drop, get_or_append_left, get_or-append_right, get_or-take, get_or-drop, get_or-replicate, ext_get_or}
 use Rattle.std.proofs.ByRecursion.{All-append, All-get_or, All-weaker}
 use Rattle.std.proofs.lemmas.Bool.{and_parts, not-true, eqb-false, cases_lt}
 use Rattle.qic24.specs.Cells.{joined, bits, number_of, nibble_codes, nibble_cells, byte_cells, mark_cells}
 use Rattle.qic24.specs.Copy.{Numbered, Proper, body}
 use Rattle.qic24.specs.Opening.{opening, Opens, SoundAt}
-use Rattle.qic24.proofs.Tables.{below, at_below}
+use Rattle.qic24.proofs.Tables.{at_below}
 use Rattle.qic24.proofs.Entries.{entry-cells, length-entry, spelled}
 use Rattle.qic24.proofs.Body.{data_entries, tail_bytes, entries, body_spelled, length_entries, data_small, tail_small}
 use Rattle.qic24.proofs.Exactly.{length-body}
-use Rattle.qic24.proofs.Openings.{opens_within}
 
 -- a nibble's cells: five, and not all ones
 abbrev Nibble : List ℕ → Type 0

@@ -1,5 +1,5 @@
 -- Cells, and the group code that bytes are recorded in. A cell is 1, a flux transition, or 0; the leftmost is recorded first.
-use Rattle.std.specs.Prelude.{ℕ, zero, suc, ◌+◌, ◌*◌, ◌/◌, ◌%◌, ◌<◌, Bool, true, false, cond, List, [], ◌∷◌, ◌++◌, map, ◌==◌, slice_index}
+use Rattle.std.specs.Prelude.{ℕ, zero, suc, ◌+◌, ◌*◌, ◌/◌, ◌%◌, ◌<◌, cond, List, [], ◌∷◌, ◌++◌, ◌==◌, slice_index}
 
 -- f taken over a list from its front, starting at z
 abbrev pub fold : {A B : Type 0} → (B → A → B) → B → List A → B

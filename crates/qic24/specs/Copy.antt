@@ -1,7 +1,7 @@
 -- The recorded copy of an item: preamble, marker, data, address, CRC and postamble.
-use Rattle.std.specs.Prelude.{◌≡◌, ℕ, ◌+◌, ◌*◌, ◌/◌, ◌%◌, ◌<◌, ◌≤◌, cond, ◌&&◌, List, [], ◌∷◌, ◌++◌, map, length, replicate, Some, None, Option, nat_le}
+use Rattle.std.specs.Prelude.{◌≡◌, ℕ, ◌/◌, ◌%◌, ◌<◌, ◌≤◌, cond, ◌&&◌, List, [], ◌∷◌, ◌++◌, map, length, replicate, Some, None, Option, nat_le}
 use Rattle.std.specs.List.{AllByRecursion as All}
-use Rattle.qic24.specs.Cells.{joined, bits, byte_cells, mark_cells}
+use Rattle.qic24.specs.Cells.{joined, byte_cells, mark_cells}
 use Rattle.qic24.specs.Crc.{crc}
 use Rattle.qic24.specs.declared.item.Content.{Content}
 use Rattle.qic24.specs.declared.item.Content.TheVariants.{Block, Mark}

@@ -1,5 +1,5 @@
 -- What an inspection counts, command by command.
-use Rattle.std.proofs.Common.{◌≡◌, ℕ, suc, ◌+◌, ◌<◌, List, [], length, get_or, drop, Option, sym, ap, ◌∙◌, subst, ap₂, add-zero, zero-add, arith}
+use Rattle.std.proofs.Common.{◌≡◌, ℕ, suc, ◌+◌, ◌<◌, List, length, get_or, drop, Option, sym, ap, ◌∙◌, subst, ap₂, add-zero, zero-add, arith}
 use Rattle.std.proofs.lemmas.List.{length-append, drop-drop}
 use Rattle.std.proofs.ByRecursion.{All-drop}
 use Rattle.script.specs.declared.refusal.Refusal.{Refusal}

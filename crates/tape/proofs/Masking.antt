@@ -1,13 +1,13 @@
 -- The parts of a run that a sheet has sent on so far.
-use Rattle.std.proofs.Common.{◌≡◌, ℕ, ◌+◌, ◌<◌, ◌≤◌, List, [], ◌∷◌, ◌++◌, map, length, take, drop, sym, refl, ap, ◌∙◌, subst, append_assoc, append-nil, arith, length-append, take-add}
+use Rattle.std.proofs.Common.{◌≡◌, ℕ, ◌+◌, ◌<◌, ◌≤◌, List, [], ◌∷◌, ◌++◌, map, length, take, drop, sym, refl, ap, ◌∙◌, append_assoc, append-nil, arith, length-append, take-add}
 use Rattle.std.specs.List.{flat_map, AllByRecursion as All}
 use Rattle.std.proofs.ByRecursion.{All-push}
 use Rattle.std.proofs.lemmas.List.{length-map, length-take-le, map-append, take_all}
 use Rattle.tape.specs.Tape.{Tape, track, cell, Run, run, Longer, Sends}
 use Rattle.tape.specs.Flaws.{masked, Clean}
-use Rattle.tape.specs.Sheets.{Divided, Passes}
+use Rattle.tape.specs.Sheets.{Passes}
 use Rattle.tape.specs.declared.flaw.Flaw.{Flaw}
-use Rattle.tape.specs.Covering.{length_masked, masked_append, masked_clean, cell_masked}
+use Rattle.tape.specs.Covering.{length_masked, masked_append, masked_clean}
 use Rattle.tape.specs.Sendings.{sends_one, sends_keep, sends_add}
 
 -- the first `done` of the cells for the track t from the place p on, sent on from the medium s to the medium e

@@ -1,5 +1,5 @@
 -- What the answers of a cartridge's calls tell.
-use Rattle.std.proofs.Common.{◌≡◌, ℕ, ◌<◌, ◌≤◌, Bool, true, false, cond, ltb, leb, List, length, take, drop, IfOk, Ok, Err, Result, sym, refl, ap, ◌∙◌, subst, inl, inr, arith, MatchResult}
+use Rattle.std.proofs.Common.{◌≡◌, ℕ, ◌<◌, ◌≤◌, cond, ltb, leb, List, length, take, drop, IfOk, Ok, Err, Result, sym, ap, ◌∙◌, inl, inr, arith, MatchResult}
 use Rattle.std.proofs.lemmas.Result.{MatchResult-at_ok}
 use Rattle.tape.specs.Tape.{Tape, track}
 use Rattle.tape.specs.Calls.{read_answer}

@@ -1,10 +1,10 @@
 -- Which cells are under flaws, by their numbers and by track and place.
-use Rattle.std.specs.Prelude.{◌≡◌, ℕ, zero, suc, ◌+◌, ◌-◌, ◌*◌, ◌<◌, ◌≤◌, min, max, Bool, true, false, cond, ◌&&◌, ◌||◌, ◌⊎◌, List, [], ◌∷◌, ◌++◌, map, length, get_or, Decides, ◌==◌, nat_le, nat_lt, slice_index_or, refl}
+use Rattle.std.specs.Prelude.{◌≡◌, ℕ, zero, suc, ◌+◌, ◌-◌, ◌<◌, ◌≤◌, min, max, Bool, true, false, cond, ◌&&◌, List, [], ◌∷◌, ◌++◌, map, length, get_or, Decides, ◌==◌, nat_le, nat_lt, slice_index_or, refl}
 use Rattle.std.proofs.Common.{sym, ap, subst, ◌∙◌, inl, inr, arith}
 use Rattle.std.specs.List.{HoldsAt}
-use Rattle.std.proofs.lemmas.List.{length-take-le, get_or-take, get_or_default, length-map}
-use Rattle.std.proofs.lemmas.Bool.{leb-true, le-leb, cases_Bool, true≢false, cond_both}
-use Rattle.std.proofs.lemmas.Bool.Decides.{Decides-eqb, Decides-ltb, Decides-and, Decides-by_or, not_from_Decides}
+use Rattle.std.proofs.lemmas.List.{get_or_default}
+use Rattle.std.proofs.lemmas.Bool.{leb-true, le-leb, cases_Bool, true≢false}
+use Rattle.std.proofs.lemmas.Bool.Decides.{Decides-eqb, Decides-ltb, Decides-and, Decides-by_or}
 use Rattle.tape.specs.Tape.{cell}
 use Rattle.tape.specs.Stretches.{Holds, Sought}
 use Rattle.tape.specs.Flaws.{cell_number, flaw_first, flaw_end, no_flaw, covers, under, masked, Clean, Apart, Whole}

@@ -1,10 +1,9 @@
 -- Runs that a medium takes one after the other.
-use Rattle.std.specs.Prelude.{◌≡◌, ℕ, ◌+◌, ◌<◌, List, [], ◌∷◌, ◌++◌, length, ◌≢◌, refl}
+use Rattle.std.specs.Prelude.{◌≡◌, ℕ, ◌+◌, List, [], ◌∷◌, ◌++◌, length, ◌≢◌, refl}
 use Rattle.std.proofs.Common.{sym, ap, subst, ◌∙◌, append_assoc, append-nil, arith, length-append}
 use Rattle.std.specs.List.{flat_map, AllByRecursion as All}
 use Rattle.tape.specs.Tape.{Tape, track, Run, Longer, Sends, Grown}
-use Rattle.tape.specs.Flaws.{masked}
-use Rattle.tape.specs.Sheets.{Divided, Passes}
+use Rattle.tape.specs.Sheets.{Passes}
 use Rattle.tape.specs.declared.flaw.Flaw.{Flaw}
 use Rattle.tape.specs.Covering.{length_masked}
 

@@ -1,5 +1,5 @@
 -- A tape by its cells, and what a medium does with the runs of cells that are sent to it.
-use Rattle.std.specs.Prelude.{◌≡◌, ℕ, ◌+◌, ◌<◌, List, [], ◌∷◌, ◌++◌, map, length, replicate, ◌≢◌, slice_index_or}
+use Rattle.std.specs.Prelude.{◌≡◌, ℕ, ◌<◌, List, [], ◌∷◌, ◌++◌, map, length, replicate, ◌≢◌, slice_index_or}
 -- a cell, and the cell that a byte stands for
 pub use Rattle.qic24.specs.Cells.{Cell, cell}
 use Rattle.std.specs.List.{range_with_len}

@@ -1,6 +1,5 @@
-use Rattle.std.proofs.Common.{◌≡◌, ◌/◌, ◌<◌, [], ◌∷◌, sym, refl, ap, ◌∙◌, subst, arith, rules}
+use Rattle.std.proofs.Common.{◌/◌, ◌<◌, ap, ◌∙◌, arith, rules}
 use lib.Bits.{bit_xor, xor_lt}
-use Rattle.qic24.specs.Crc.{crc_from}
 use Rattle.qic24.proofs.Register.{by_table}
 use Rattle.qic24.proofs.crc16.feed.Goals as goal
 

@@ -1,4 +1,4 @@
-use Rattle.std.proofs.Common.{◌≡◌, sym, refl, ap, ◌∙◌}
+use Rattle.std.proofs.Common.{sym, ap, ◌∙◌}
 use Rattle.qic24.specs.Copy.{counted, address}
 use Rattle.qic24.specs.Crc.{crc, crc_from}
 use Rattle.qic24.proofs.Register.{crc_from-append}

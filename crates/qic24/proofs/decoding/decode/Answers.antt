@@ -1,10 +1,8 @@
-use Rattle.std.proofs.Common.{◌≡◌, true, false, ltb, map, length, Some, None, sym, refl, ap, ◌∙◌, arith}
+use Rattle.std.proofs.Common.{map, sym, ap, ◌∙◌, arith}
 use Rattle.std.proofs.lemmas.List.{length-map}
-use Rattle.std.proofs.lemmas.Bool.{lt-ltb, le-ltb}
 use Rattle.std.proofs.lemmas.Result.{err_from_is_err_and}
 use Rattle.qic24.specs.Cells.{cell}
-use Rattle.qic24.specs.Copy.{held}
-use Rattle.qic24.specs.Decode.{decoded, by_groups, judged, groups, first_fault, mapped_ok, byte_of, marks_in}
+use Rattle.qic24.specs.Decode.{judged, groups, marks_in}
 use Rattle.qic24.proofs.Judging.{decoded-short, decoded_fault, decoded-codes}
 use Rattle.qic24.proofs.Promises.{reads_exactly, reads_back}
 use Rattle.qic24.proofs.decoding.decode.Goals as goal

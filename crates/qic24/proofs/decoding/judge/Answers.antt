@@ -1,8 +1,7 @@
-use Rattle.std.proofs.Common.{◌≡◌, true, false, get_or, take, Ok, sym, refl, ap, ◌∙◌, arith}
-use Rattle.qic24.specs.Crc.{crc}
-use Rattle.qic24.specs.Decode.{mixed, word_at, number_in, content_in}
+use Rattle.std.proofs.Common.{◌≡◌, Ok, sym, ap, ◌∙◌, arith}
+use Rattle.qic24.specs.Decode.{number_in}
 use Rattle.qic24.proofs.Judging.{judged-mixed, judged_check, judged_other, judged_control, judged-zero, judged-item, from_some, from-none}
-use Rattle.qic24.specs.Copy.{Numbered, held}
+use Rattle.qic24.specs.Copy.{held}
 use Rattle.qic24.proofs.decoding.judge.Goals as goal
 
 pub returns-then-is_mixed : goal.returns-then-is_mixed

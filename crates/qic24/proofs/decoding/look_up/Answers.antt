@@ -1,4 +1,4 @@
-use Rattle.std.proofs.Common.{◌≡◌, sym, refl, ap, ◌∙◌, arith}
+use Rattle.std.proofs.Common.{ap, ◌∙◌, arith}
 use Rattle.qic24.specs.Decode.{entry}
 use Rattle.qic24.proofs.Tables.{entry-is}
 use Rattle.qic24.proofs.decoding.look_up.Goals as goal

@@ -1,4 +1,4 @@
-use Rattle.std.proofs.Common.{◌≡◌, ℕ, ◌+◌, ◌≤◌, List, ◌++◌, length, drop, sym, refl, ap, ◌∙◌, zero-add, arith, rules}
+use Rattle.std.proofs.Common.{◌≡◌, ℕ, ◌+◌, ◌≤◌, List, ◌++◌, length, drop, sym, ap, ◌∙◌, zero-add, arith, rules}
 use Rattle.std.proofs.lemmas.List.{append_assoc, length-append}
 use Rattle.qic24.specs.Buffers.{overlaid}
 use Rattle.qic24.specs.Copy.{copy, body, ones, marker, held, preamble_ones}

@@ -1,4 +1,4 @@
-use Rattle.std.proofs.Common.{◌≡◌, ◌+◌, ◌/◌, ◌%◌, ◌≤◌, length, sym, refl, ap, ◌∙◌, arith}
+use Rattle.std.proofs.Common.{◌≡◌, ◌/◌, ◌%◌, ap, ◌∙◌, arith}
 use lib.Bits.{bit_and, and_mask}
 use Rattle.qic24.specs.Buffers.{overlaid}
 use Rattle.qic24.specs.Cells.{byte_cells, nibble_cells}

@@ -1,4 +1,4 @@
-use Rattle.std.proofs.Common.{◌≡◌, ℕ, List, length, sym, refl, ap, ◌∙◌, arith, rules}
+use Rattle.std.proofs.Common.{◌≡◌, length, ap, ◌∙◌, arith, rules}
 use Rattle.qic24.specs.Copy.{data_cells}
 use Rattle.qic24.proofs.Binary.{length-coded, length-mark_data}
 use Rattle.qic24.proofs.encoding.put_data.Goals as goal

@@ -1,4 +1,4 @@
-use Rattle.std.proofs.Common.{◌≡◌, ◌+◌, ◌*◌, ◌≤◌, length, sym, refl, ap, ◌∙◌, arith}
+use Rattle.std.proofs.Common.{◌≡◌, sym, ap, ◌∙◌, arith}
 use Rattle.qic24.specs.Buffers.{overlaid}
 use Rattle.qic24.specs.Cells.{mark_cells}
 use Rattle.qic24.proofs.Binary.{marks, length-marks, marks-more, mark_cells-is, mark_data-at}

@@ -1,4 +1,4 @@
-use Rattle.std.proofs.Common.{◌≡◌, ℕ, ◌+◌, ◌-◌, ◌*◌, List, length, take, drop, sym, refl, ap, ◌∙◌, subst, arith}
+use Rattle.std.proofs.Common.{◌≡◌, ℕ, ◌+◌, ◌-◌, ◌*◌, List, length, take, drop, ap, ◌∙◌, arith}
 use Rattle.qic24.specs.Buffers.{overlaid}
 use Rattle.qic24.specs.Cells.{nibble_cells}
 use Rattle.qic24.proofs.Binary.{length_nibble}

@@ -1,4 +1,4 @@
-use Rattle.std.proofs.Common.{◌≡◌, ◌+◌, ◌-◌, ◌%◌, ◌<◌, map, take, drop}
+use Rattle.std.proofs.Common.{◌≡◌, ◌+◌, ◌-◌, ◌%◌, map, take, drop}
 use Rattle.qic24.specs.Cells.{cell, number_of}
 use Rattle.qic24.specs.Opening.{NoneBetween}
 use Rattle.qic24.proofs.opening.find_opening.Given as goal

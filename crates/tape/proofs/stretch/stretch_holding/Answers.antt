@@ -1,4 +1,4 @@
-use Rattle.std.proofs.Common.{◌≡◌, ◌+◌, ◌<◌, ◌≤◌, arith, below_more}
+use Rattle.std.proofs.Common.{◌<◌, ◌≤◌, arith, below_more}
 use Rattle.std.proofs.lemmas.List.Elements.{at_read}
 use Rattle.tape.specs.Stretches.{Holds}
 use Rattle.tape.proofs.Searching.{stopped, passed-all}

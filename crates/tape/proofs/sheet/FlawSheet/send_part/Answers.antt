@@ -1,4 +1,4 @@
-use Rattle.std.proofs.Common.{◌≡◌, ℕ, ◌+◌, cond, ltb, leb, List, map, length, Ok, Err, Result, sym, refl, ap, ◌∙◌, subst}
+use Rattle.std.proofs.Common.{◌≡◌, ℕ, ◌+◌, cond, ltb, leb, List, map, length, Ok, Err, Result, refl, ap, ◌∙◌, subst}
 use Rattle.tape.specs.Tape.{cell, run, track}
 use Rattle.tape.specs.Flaws.{masked}
 use Rattle.tape.specs.Sheets.{sheet_flaws}

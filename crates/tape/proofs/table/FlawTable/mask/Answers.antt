@@ -1,7 +1,7 @@
-use Rattle.std.proofs.Common.{◌≡◌, ℕ, ◌+◌, ◌<◌, true, false, cond, ◌≢◌, List, length, get_or, sym, ap, ◌∙◌, subst, arith, below_more}
+use Rattle.std.proofs.Common.{◌≡◌, ℕ, ◌+◌, true, false, List, sym, ◌∙◌, subst, arith, below_more}
 use Rattle.std.proofs.lemmas.List.{get_or-set_same, get_or-set_other, get_or_default, same_lists}
 use Rattle.std.proofs.lemmas.Bool.{cond-true, cond-false}
-use Rattle.tape.specs.Flaws.{under, masked, flaw_first, cell_number}
+use Rattle.tape.specs.Flaws.{under, flaw_first, cell_number}
 use Rattle.tape.specs.FlawTables.{table_flaws}
 use Rattle.tape.specs.Stretches.{Sought}
 use Rattle.tape.specs.declared.flaw.Flaw.{Flaw}

@@ -1,6 +1,6 @@
-use Rattle.std.proofs.Common.{◌≡◌, ℕ, ◌+◌, ◌<◌, ◌≤◌, min, max, true, false, List, length, get_or, ap, arith, below_more}
+use Rattle.std.proofs.Common.{List, length, get_or, ap, arith, below_more}
 use Rattle.std.proofs.lemmas.Bool.{true≢false, false≢true}
-use Rattle.tape.specs.Flaws.{cell_number, flaw_first, flaw_end, no_flaw}
+use Rattle.tape.specs.Flaws.{flaw_first, flaw_end, no_flaw}
 use Rattle.tape.specs.FlawTables.{table_flaws}
 use Rattle.tape.specs.declared.flaw.Flaw.{Flaw}
 use Rattle.tape.specs.Covering.{touched_not_clean, untouched_clean}

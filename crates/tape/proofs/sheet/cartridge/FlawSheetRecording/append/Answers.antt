@@ -1,9 +1,8 @@
-use Rattle.std.proofs.Common.{◌≡◌, ℕ, length, sym, refl, ap, ◌∙◌, subst, arith}
+use Rattle.std.proofs.Common.{ℕ, length, refl, ap, subst}
 use Rattle.std.proofs.lemmas.Result.{MatchResult-weaker}
 use Rattle.tape.specs.Tape.{track}
 use Rattle.tape.specs.Flaws.{Clean}
 use Rattle.tape.specs.Sheets.{sheet_flaws}
-use Rattle.tape.specs.declared.sheet.FlawSheet.{FlawSheet}
 use Rattle.tape.proofs.Replies.{length-told}
 use Rattle.tape.proofs.Masking.{passed_whole}
 use Rattle.tape.proofs.sheet.cartridge.FlawSheetRecording.append.Goals as goal
