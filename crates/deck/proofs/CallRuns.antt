@@ -6,7 +6,7 @@ use Rattle.qic24.specs.declared.item.Content.TheVariants.{Block, Mark}
 use Rattle.qic24.specs.declared.layout.Preamble.TheVariants.{Elongated, Long}
 use Rattle.tape.specs.Tape.{Tape, track, Run, run, Longer, Grown}
 use Rattle.deck.specs.Measures.{copy_tail, copy_head, normal_copy, closing_ones, most_writings, more_writings, item_room, finish_room, number_limit}
-use Rattle.replay.specs.Copies.{body_cells, CopyAt, Ascending, In, here, Whole}
+use Rattle.replay.specs.Copies.{body_cells, CopyAt, Ascending, In, Whole}
 use Rattle.replay.specs.declared.place.TapePlace.{TapePlace}
 use Rattle.replay.specs.Replay.{ReplayState, expecting, not_located, ReplayProgress}
 use Rattle.replay.specs.declared.unlocated.UnsoundOpening.{UnsoundOpening}

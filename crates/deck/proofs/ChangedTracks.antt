@@ -1,8 +1,8 @@
 -- The pending item finished, and the new one on the next track.
-use Rattle.std.proofs.Common.{◌≡◌, ℕ, suc, ◌+◌, ◌*◌, ◌<◌, ◌≤◌, min, Bool, true, false, cond, eqb, ltb, List, [], ◌∷◌, ◌++◌, length, sym, refl, ap, ◌∙◌, subst, append-nil, arith}
+use Rattle.std.proofs.Common.{◌≡◌, ℕ, suc, ◌+◌, ◌*◌, ◌<◌, ◌≤◌, min, Bool, true, false, cond, eqb, ltb, List, [], ◌∷◌, ◌++◌, length, sym, ap, ◌∙◌, subst, append-nil, arith}
 use Rattle.qic24.specs.Copy.{Numbered, copy, preamble_ones}
 use Rattle.qic24.specs.declared.layout.Preamble.TheVariants.{Elongated, Long}
-use Rattle.tape.specs.Tape.{Tape, track, Run, run, Sends}
+use Rattle.tape.specs.Tape.{track, Run, run, Sends}
 use Rattle.deck.specs.Measures.{normal_copy, more_writings, most_writings, item_room}
 use Rattle.deck.specs.Deck.{copy_run, first_preamble, first_on, end_track, end_place, alone_at, finish_puts, finish_runs}
 use Rattle.deck.specs.LastCopies.{last_copy, failed_alone}

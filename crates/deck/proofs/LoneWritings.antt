@@ -4,9 +4,9 @@ use Rattle.std.proofs.lemmas.Bool.{lt-ltb, cond-true, cond-false}
 use Rattle.qic24.specs.Copy.{Numbered, ones, copy, preamble_ones}
 use Rattle.qic24.specs.declared.layout.Preamble.TheVariants.{Normal}
 use Rattle.tape.specs.Tape.{Tape, track, Run, run, Sends, Grown}
-use Rattle.replay.specs.Copies.{CopyAt, place_on, placed, Whole}
+use Rattle.replay.specs.Copies.{place_on, placed, Whole}
 use Rattle.replay.specs.Scan.{stands}
-use Rattle.replay.proofs.Growing.{Extends, extends_refl}
+use Rattle.replay.proofs.Growing.{extends_refl}
 use Rattle.deck.specs.Measures.{copy_tail, normal_copy, closing_ones, most_writings, more_writings, finish_room}
 use Rattle.deck.specs.Rewriting.{rewritten}
 use Rattle.deck.specs.Deck.{copy_runs, copy_place, end_track, end_place, alone_at, finish_puts, finish_runs}

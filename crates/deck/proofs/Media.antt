@@ -1,5 +1,5 @@
 -- A cartridge of any kind, by its ghost members and laws, and what runs that are sent to it leave.
-use Rattle.std.proofs.Common.{◌≡◌, ℕ, ◌+◌, ◌≤◌, List, [], ◌∷◌, ◌++◌, length, sym, refl, ap, ◌∙◌, subst}
+use Rattle.std.proofs.Common.{◌≡◌, ℕ, ◌≤◌, List, [], ◌∷◌, ◌++◌, length, subst}
 use Rattle.std.specs.List.{AllByRecursion as All}
 use Rattle.tape.specs.Tape.{Tape, track, Cell, Run, Longer, Sends, Grown}
 use Rattle.tape.specs.Sendings.{sends_keep, sends_grow}

@@ -1,5 +1,5 @@
 -- What next does where it hands out an item.
-use Rattle.std.proofs.Common.{◌≡◌, ℕ, ◌≤◌, false, ltb, List, length, Ok, Option, sym, ap, ◌∙◌}
+use Rattle.std.proofs.Common.{◌≡◌, ℕ, ◌≤◌, false, List, length, Ok, sym, ap, ◌∙◌}
 use Rattle.std.proofs.lemmas.Bool.{true≢false, le-ltb}
 use Rattle.qic24.specs.Copy.{held}
 use Rattle.qic24.specs.declared.item.Item.{Item}

@@ -1,12 +1,11 @@
 -- The new item after the pending one, and both again: what is sent so far, and that the pending one failed so far.
-use Rattle.std.proofs.Common.{◌≡◌, ℕ, zero, suc, ◌+◌, ◌-◌, ◌*◌, ◌<◌, ◌≤◌, min, Bool, true, false, ltb, List, [], ◌∷◌, ◌++◌, length, sym, refl, ap, ◌∙◌, subst, add-one, arith}
+use Rattle.std.proofs.Common.{◌≡◌, ℕ, zero, suc, ◌+◌, ◌-◌, ◌*◌, ◌<◌, ◌≤◌, min, Bool, true, false, ltb, List, [], ◌∷◌, ◌++◌, length, sym, refl, ap, ◌∙◌, subst, arith}
 use Rattle.std.proofs.lemmas.Bool.{lt-ltb}
 use Rattle.qic24.specs.Copy.{Numbered, copy, preamble_ones}
 use Rattle.qic24.specs.declared.layout.Preamble.TheVariants.{Normal}
 use Rattle.tape.specs.Tape.{Tape, track, Run, run, Sends}
-use Rattle.replay.specs.Copies.{CopyAt, place_on, placed, Whole}
+use Rattle.replay.specs.Copies.{place_on, placed, Whole}
 use Rattle.replay.specs.Scan.{stands}
-use Rattle.replay.proofs.Growing.{Extends}
 use Rattle.deck.specs.Measures.{copy_tail, normal_copy, most_writings, more_writings, item_room}
 use Rattle.deck.specs.Rewriting.{rewritten_with}
 use Rattle.deck.specs.Deck.{copy_runs, copy_place, end_track, end_place, pending_at, new_at, pair_puts}

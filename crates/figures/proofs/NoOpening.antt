@@ -1,5 +1,5 @@
 -- The nibbles F, C and E hold no opening.
-use Rattle.std.proofs.Common.{◌≡◌, ℕ, zero, suc, ◌+◌, ◌-◌, ◌<◌, ◌≤◌, List, [], ◌∷◌, ◌++◌, map, length, get_or, take, drop, Some, None, Option, sym, refl, ap, ◌∙◌, subst, arith, MatchOption}
+use Rattle.std.proofs.Common.{◌≡◌, ℕ, zero, suc, ◌-◌, ◌≤◌, List, [], ◌∷◌, ◌++◌, map, get_or, take, drop, Some, None, Option, refl, ap, subst, arith}
 use Rattle.qic24.specs.Cells.{bits, nibble_codes, nibble_cells, cell}
 use Rattle.qic24.specs.Opening.{opening, Opens, FirstOpening}
 use Rattle.qic24.proofs.Openings.{opens_within}

@@ -1,5 +1,5 @@
 -- Runs of cells to one track of a medium that spoils nothing, one after the other.
-use Rattle.std.proofs.Common.{◌≡◌, ℕ, ◌+◌, ◌<◌, List, [], ◌++◌, map, length, take, drop, set, sym, refl, ap, ◌∙◌, subst, length-set, take-add}
+use Rattle.std.proofs.Common.{◌≡◌, ℕ, ◌+◌, ◌<◌, List, [], ◌++◌, map, length, take, drop, set, sym, ap, ◌∙◌, length-set, take-add}
 use Rattle.std.proofs.lemmas.List.{append-nil, append_assoc, map-append, set-set, set-get_or}
 use Rattle.tape.specs.Tape.{Tape, track, run}
 use Rattle.tape.specs.Stores.{Unspoiled}

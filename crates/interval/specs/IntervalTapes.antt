@@ -1,16 +1,12 @@
 -- The tape that an interval store's bytes stand for.
-use Rattle.std.specs.Prelude.{◌≡◌, ℕ, zero, suc, ◌+◌, ◌-◌, ◌*◌, ◌<◌, ◌≤◌, true, cond, ◌&&◌, List, [], ◌∷◌, ◌++◌, map, length, take, drop, replicate, Ok, Err, Result, ◌==◌, nat_le, nat_lt, slice_index, slice_set, refl}
-use Rattle.std.proofs.Common.{sym, subst, ◌∙◌, inl, inr, arith, rules, add-mul, one-mul, length-drop}
+use Rattle.std.specs.Prelude.{◌≡◌, ℕ, zero, suc, ◌+◌, ◌*◌, ◌<◌, ◌≤◌, true, cond, ◌&&◌, List, [], ◌∷◌, ◌++◌, length, take, drop, replicate, Ok, Err, Result, ◌==◌, nat_le, nat_lt, slice_index, slice_set, refl}
+use Rattle.std.proofs.Common.{sym, subst, ◌∙◌, arith, length-drop}
 use Rattle.std.proofs.Math.Path.{ap}
-use borrow.Rule.Slice.PartMut.{put_mid}
-use Rattle.std.specs.Vec.{with_items}
 use Rattle.std.specs.List.{flat_map, AllByRecursion as All}
-use Rattle.std.proofs.lemmas.Nat.{mul-le}
 use Rattle.std.proofs.ByRecursion.{All-append, All-from_get_or}
-use Rattle.std.proofs.lemmas.List.{places, with_items_is, length-map, length-take-le, length-replicate, length-append, get_or-take, get_or-drop, get_or_default, get_or-set_same, get_or-set_other, get_or-replicate, take-take, take-append-le, drop_at, drop-take, same_lists}
-use Rattle.std.proofs.lemmas.Slice.{take-put_mid_below, drop-put_mid}
-use Rattle.std.proofs.lemmas.Bool.{cases_eq, cases_order, cond_both, and_parts, leb-true}
-use Rattle.tape.specs.Tape.{Tape, track, blank, tape_by, Cell, cell}
+use Rattle.std.proofs.lemmas.List.{length-take-le, length-replicate, length-append, get_or-take, get_or-drop, get_or_default, get_or-replicate, same_lists}
+use Rattle.std.proofs.lemmas.Bool.{cond_both, and_parts, leb-true}
+use Rattle.tape.specs.Tape.{track, blank, Cell}
 use Rattle.interval.specs.Intervals.{gap, interval_cells, interval_tape, Stands}
 use Rattle.interval.specs.Marks.{mark_stride, mark_of, Noted}
 use Rattle.tape.specs.Stores.{within_limits}
@@ -18,10 +14,9 @@ use Rattle.interval.specs.IntervalStores.{interval_fits, interval_store_tape}
 use Rattle.interval.specs.declared.interval.IntervalStore.{IntervalStore}
 use Rattle.tape.specs.declared.refusal.Refusal.{Refusal}
 use Rattle.tape.specs.declared.refusal.Refusal.TheVariants.{NoTrack}
-use Rattle.interval.specs.Gaps.{Spelled}
 use Rattle.interval.specs.GapReads.{zeros_at}
 use Rattle.tape.proofs.Replies.{length-told}
-use Rattle.tape.proofs.Tapes.{length_by, track_by, each-track, by_set, by_blank}
+use Rattle.tape.proofs.Tapes.{length_by, track_by, each-track, by_blank}
 
 zeros_binary : (n : ℕ) → All Cell (replicate n 0)
 zeros_binary n = All-from_get_or Cell (replicate n 0) 0 (λ i h. subst Cell (sym (get_or-replicate n i 0 0 (omega (arith, length-replicate {A = ℕ} n 0)))) (omega arith))

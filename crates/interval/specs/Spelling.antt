@@ -1,9 +1,9 @@
 -- Cells spelled out in the bytes of an interval store, one after the other.
-use Rattle.std.specs.Prelude.{◌≡◌, ℕ, zero, suc, ◌+◌, ◌-◌, ◌*◌, ◌<◌, ◌≤◌, Bool, true, false, cond, not, List, [], ◌∷◌, ◌++◌, map, length, take, replicate, slice_set, refl}
-use Rattle.std.proofs.Common.{sym, ap, subst, ◌∙◌, inl, inr, add-zero, mul-zero, mul-one, arith}
+use Rattle.std.specs.Prelude.{◌≡◌, ℕ, ◌+◌, ◌-◌, ◌*◌, ◌<◌, ◌≤◌, Bool, true, false, cond, not, List, [], ◌∷◌, ◌++◌, length, take, replicate, slice_set, refl}
+use Rattle.std.proofs.Common.{sym, ap, ◌∙◌, add-zero, mul-zero, mul-one, arith}
 use mir.Val.{bool_byte}
 use Rattle.std.specs.List.{flat_map}
-use Rattle.std.proofs.lemmas.List.{append-nil, append_assoc, length-append, length-replicate, take-take, take_more_set, take-set, set-set, replicate_more, flat_map_more}
+use Rattle.std.proofs.lemmas.List.{append-nil, append_assoc, length-append, take-take, take_more_set, take-set, set-set, replicate_more, flat_map_more}
 use Rattle.std.proofs.lemmas.Bool.{eq-eqb, ne_eqb}
 use Rattle.interval.specs.Intervals.{gap, interval_cells}
 use Rattle.interval.specs.Gaps.{Spelled}

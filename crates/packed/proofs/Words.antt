@@ -1,6 +1,6 @@
 -- Eight bytes in a word, and what the arithmetic on words does to each of them.
-use Rattle.std.proofs.Common.{◌≡◌, ℕ, zero, suc, ◌+◌, ◌-◌, ◌*◌, ◌/◌, ◌%◌, ◌^◌, ◌<◌, ◌≤◌, cond, eqb, List, [], ◌∷◌, map, length, get_or, sym, refl, ap, ◌∙◌, subst, zero-add, arith, lit<}
-use lib.Bits.{bit_and, bit_or, and_block, or_block, or_lt, and_lt, and_le_r}
+use Rattle.std.proofs.Common.{◌≡◌, ℕ, zero, suc, ◌+◌, ◌*◌, ◌/◌, ◌%◌, ◌<◌, eqb, List, [], ◌∷◌, map, length, get_or, sym, refl, ap, ◌∙◌, zero-add, arith, lit<}
+use lib.Bits.{bit_and, bit_or, and_block, or_block, or_lt, and_le_r}
 use lib.Pow.{shl-shr}
 use Rattle.std.proofs.lemmas.List.{map-id, same_lists, get_or_default}
 use Rattle.std.proofs.lemmas.Bool.{cond_both}

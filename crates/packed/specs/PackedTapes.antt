@@ -1,5 +1,5 @@
 -- The tape that a packed store's bytes stand for.
-use Rattle.std.specs.Prelude.{◌≡◌, ℕ, zero, suc, ◌+◌, ◌-◌, ◌*◌, ◌/◌, ◌<◌, ◌≤◌, ◌⊎◌, List, [], ◌∷◌, ◌++◌, map, length, take, drop, Ok, ◌≢◌, slice_index, slice_set, refl}
+use Rattle.std.specs.Prelude.{◌≡◌, ℕ, ◌+◌, ◌*◌, ◌/◌, ◌<◌, ◌≤◌, List, ◌++◌, map, length, take, drop, Ok, ◌≢◌, slice_index, slice_set}
 use Rattle.std.proofs.Math.Path.{sym, ap}
 use Rattle.std.proofs.Common.{subst, ◌∙◌, inl, inr, arith, add-mul, one-mul}
 use Rattle.std.proofs.Math.ListN.{length-drop}
@@ -10,8 +10,8 @@ use Rattle.std.proofs.lemmas.List.{length-take-le, get_or-take, get_or-drop, get
 use Rattle.std.proofs.lemmas.Bool.{cases_order}
 use Rattle.std.proofs.lemmas.List.FromFn.{length-map-range_with_len, get_or-map-range_with_len}
 use Rattle.tape.specs.Calls.{length_answer}
-use Rattle.tape.specs.Tape.{Tape, track, blank, tape_by, Cell, cell}
-use Rattle.packed.specs.Packed.{bit, packed_bytes, packed_cell, packed_cells, packed_tape}
+use Rattle.tape.specs.Tape.{track, blank, Cell, cell}
+use Rattle.packed.specs.Packed.{packed_bytes, packed_cell, packed_cells, packed_tape}
 use Rattle.packed.specs.Packing.{Put}
 use Rattle.packed.specs.PackedStores.{packed_store_tape}
 use Rattle.packed.specs.declared.packed.PackedStore.{PackedStore}

@@ -1,7 +1,6 @@
 -- What a replay hands out, and how it ends.
 use Rattle.std.specs.Prelude.{◌≡◌, ℕ, suc, Bool, true, false, cond, List, [], ◌∷◌, ◌++◌, Option, ◌==◌, nat_lt}
 use Rattle.qic24.specs.Copy.{Numbered}
-use Rattle.qic24.specs.declared.fault.CopyFault.{CopyFault}
 use Rattle.replay.specs.Copies.{TapePlace, CopyAt}
 -- an opening whose copy is not sound, and the first cause why
 pub use Rattle.replay.specs.declared.unlocated.UnsoundOpening.{UnsoundOpening}

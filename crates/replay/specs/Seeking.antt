@@ -3,7 +3,7 @@ use Rattle.std.specs.Prelude.{ℕ, zero, suc, ◌+◌, Bool, true, false, cond, 
 use Rattle.qic24.specs.Cells.{fold}
 use Rattle.qic24.specs.Copy.{Numbered}
 use Rattle.tape.specs.Tape.{Tape}
-use Rattle.replay.specs.Copies.{body_cells, TapePlace, place_on, CopyAt, placed}
+use Rattle.replay.specs.Copies.{body_cells, place_on, CopyAt, placed}
 use Rattle.replay.specs.Replay.{ReplayState, expecting, not_located, advance, rewound, UnsoundOpening, UnlocatedNumber, ReplayProgress}
 use Rattle.replay.specs.Scan.{OpeningAt, openings_from, tape_start}
 -- where a replay goes on, and the number that it expects there

@@ -1,4 +1,4 @@
-use Rattle.std.proofs.Common.{◌≡◌, sym, refl, ap, ◌∙◌, lit≤}
+use Rattle.std.proofs.Common.{refl, lit≤}
 use Rattle.qic24.specs.Cells.{bits, nibble_codes, nibble_cells, byte_cells}
 use Rattle.figures.proofs.NoOpening.{none_found, none-there}
 use Rattle.figures.proofs.proved_figures.Goals as goal

@@ -1,8 +1,7 @@
-use Rattle.std.proofs.Common.{◌≡◌, ℕ, suc, ◌+◌, ◌<◌, ◌≤◌, Bool, length, sym, ap, ◌∙◌, subst, add-one, arith}
+use Rattle.std.proofs.Common.{ℕ, ◌+◌, Bool, length, sym, ap, subst, add-one, arith}
 use Rattle.qic24.specs.Copy.{held}
 use Rattle.tape.specs.Tape.{track}
 use Rattle.deck.proofs.ChangedTracks.{Changed, next_fit, changed_good, changed_failed}
-use Rattle.deck.proofs.LoneWritings.{Finished}
 use Rattle.deck.proofs.Media.{Medium}
 use Rattle.deck.proofs.SentCells.{whole_full}
 use Rattle.deck.proofs.changing.change_track.Given as given

@@ -1,6 +1,4 @@
-use Rattle.std.proofs.Common.{◌≡◌, ℕ, ◌+◌, ◌<◌, length, sym, ap, ◌∙◌, subst, inl, inr, arith, below_more}
-use Rattle.std.proofs.lemmas.Bool.{cases_lt}
-use Rattle.tape.specs.Tape.{track}
+use Rattle.std.proofs.Common.{ℕ, ◌+◌, sym, subst, arith}
 use Rattle.deck.proofs.TapeEnds.{LastSoFar, last_more, last-passed, last-all}
 use Rattle.deck.proofs.ending.end_track.Goals as goal
 use Rattle.deck.proofs.ending.end_track.Goals.{then-track_length-gt0, else-track_length-gt0}

@@ -1,5 +1,5 @@
-use Rattle.std.proofs.Common.{◌≡◌, ℕ, ◌+◌, ◌≤◌, List, map, replicate, sym, ap, ◌∙◌, subst, arith}
-use Rattle.tape.specs.Tape.{track, cell, run}
+use Rattle.std.proofs.Common.{◌≡◌, ℕ, List, map, replicate, subst}
+use Rattle.tape.specs.Tape.{cell, run}
 use Rattle.deck.specs.Measures.{closing_ones}
 use Rattle.deck.proofs.SentCells.{sent-ones, taken}
 use Rattle.deck.proofs.sending.send_closing_ones.Goals as goal

@@ -1,7 +1,7 @@
-use Rattle.std.proofs.Common.{◌≡◌, ℕ, ◌+◌, ◌≤◌, List, map, length, take, drop, sym, ap, ◌∙◌, subst, arith}
+use Rattle.std.proofs.Common.{◌≡◌, ℕ, List, map, length, take, subst, arith}
 use Rattle.std.proofs.lemmas.List.{length-take-le}
 use Rattle.qic24.specs.Copy.{held, copy, preamble_ones}
-use Rattle.tape.specs.Tape.{track, cell, run}
+use Rattle.tape.specs.Tape.{cell, run}
 use Rattle.deck.proofs.CopyLengths.{length-copy}
 use Rattle.deck.proofs.SentCells.{sent-copy, taken, whole_full}
 use Rattle.deck.proofs.sending.send_copy.Goals as goal

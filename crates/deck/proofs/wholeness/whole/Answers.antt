@@ -1,5 +1,5 @@
-use Rattle.std.proofs.Common.{◌≡◌, ◌*◌, length, sym, ap, ◌∙◌, arith}
-use Rattle.qic24.specs.Copy.{data_cells, coded}
+use Rattle.std.proofs.Common.{length, sym, ap, ◌∙◌, arith}
+use Rattle.qic24.specs.Copy.{data_cells}
 use Rattle.qic24.specs.declared.item.Content.{Content}
 use Rattle.qic24.proofs.Binary.{length-coded, length-mark_data}
 use Rattle.deck.proofs.wholeness.whole.Goals as goal

@@ -1,9 +1,8 @@
-use Rattle.std.proofs.Common.{◌≡◌, ℕ, ◌≤◌, false, ltb, length, Ok, ap, ◌∙◌, arith, rules}
+use Rattle.std.proofs.Common.{◌≡◌, ◌≤◌, false, length, arith, rules}
 use Rattle.qic24.specs.Copy.{held}
 use Rattle.replay.specs.Copies.{placed}
 use Rattle.replay.specs.Seeking.{found_item, next_found, cursor_after}
 use Rattle.deck.specs.Ending.{is_open}
-use Rattle.deck.specs.NextCall.{NextOutcome, handed, filled, next_does}
 use Rattle.deck.specs.State.{deck_state}
 use Rattle.deck.proofs.NextCalls.{item-next}
 use Rattle.deck.proofs.deck.Deck.next.Goals as goal

@@ -1,4 +1,4 @@
-use Rattle.std.proofs.Common.{◌≡◌, ℕ, ◌-◌, ◌<◌, ◌≤◌, Bool, cond, length, sym, refl, ap, ◌∙◌, subst, arith}
+use Rattle.std.proofs.Common.{◌≡◌, ℕ, ◌-◌, ◌<◌, cond, length, sym, subst, arith}
 use Rattle.qic24.specs.Copy.{held}
 use Rattle.replay.specs.Scan.{stands}
 use Rattle.deck.specs.Calls.{kept_total, unwritable}

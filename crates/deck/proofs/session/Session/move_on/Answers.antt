@@ -1,4 +1,4 @@
-use Rattle.std.proofs.Common.{◌≡◌, ℕ, suc, ◌+◌, ◌<◌, ◌≤◌, cond, leb, [], ◌∷◌, ◌++◌, length, Some, None, Option, sym, refl, ap, ◌∙◌, subst, add-one, arith}
+use Rattle.std.proofs.Common.{◌≡◌, ℕ, suc, ◌+◌, cond, leb, [], ◌∷◌, ◌++◌, length, Option, ap, subst, arith}
 use Rattle.std.proofs.lemmas.Bool.{lt-leb}
 use Rattle.qic24.specs.Copy.{Numbered, held}
 use Rattle.tape.specs.Tape.{track, Sends}
@@ -6,7 +6,7 @@ use Rattle.replay.specs.Scan.{stands}
 use Rattle.deck.specs.CallContract.{Had}
 use Rattle.deck.specs.Deck.{copy_run, first_preamble, first_on, finish_runs, alone_failures}
 use Rattle.deck.specs.LastCopies.{last_copy}
-use Rattle.deck.specs.Measures.{item_room, finish_room}
+use Rattle.deck.specs.Measures.{finish_room}
 use Rattle.deck.specs.State.{numbers_of}
 use Rattle.deck.specs.Taking.{moves_on, written_answer, written_state}
 use Rattle.deck.proofs.CallRuns.{past-end_track}

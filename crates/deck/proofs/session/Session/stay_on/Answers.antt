@@ -1,4 +1,4 @@
-use Rattle.std.proofs.Common.{◌≡◌, ℕ, length, ap, arith}
+use Rattle.std.proofs.Common.{ℕ, length, ap, arith}
 use Rattle.tape.specs.Tape.{track}
 use Rattle.deck.proofs.CallRuns.{end_place-is}
 use Rattle.deck.proofs.session.Session.stay_on.Goals as goal

@@ -1,14 +1,14 @@
-use Rattle.std.proofs.Common.{◌≡◌, ℕ, ◌<◌, ◌≤◌, Bool, true, false, eqb, ltb, length, sym, refl, ap, ◌∙◌, subst, arith, rules}
-use Rattle.qic24.specs.Copy.{Numbered, held}
+use Rattle.std.proofs.Common.{◌≡◌, ℕ, ◌<◌, true, false, eqb, length, sym, refl, subst, arith}
+use Rattle.qic24.specs.Copy.{held}
 use Rattle.replay.specs.Scan.{stands}
 use Rattle.deck.specs.Calls.{item_of, refused_with}
 use Rattle.deck.specs.CallContract.{Had}
-use Rattle.deck.specs.Deck.{end_track, media_ends, short_of_room, takes_item}
+use Rattle.deck.specs.Deck.{short_of_room, takes_item}
 use Rattle.deck.specs.Phases.{phase_of, unchecked_item}
 use Rattle.deck.specs.Refusals.{taken_answer}
 use Rattle.deck.specs.Measures.{item_room, number_limit}
 use Rattle.deck.specs.State.{numbers_of, session_state}
-use Rattle.deck.specs.Taking.{stays_on, moves_on, written_answer, written_state}
+use Rattle.deck.specs.Taking.{stays_on, moves_on}
 use Rattle.deck.proofs.TakenItems.{had_as, item-made, takes_none, takes_moving, takes_staying, end_track-there, room-enough, room-short, room-not-short, some-track, settled, kept_unless}
 use Rattle.deck.proofs.session.Session.take.Goals as goal
 use Rattle.deck.proofs.session.Session.take.Goals.{then-room_left-lt-ITEM_ROOM+else-media_ends, else-room_left-lt-ITEM_ROOM}

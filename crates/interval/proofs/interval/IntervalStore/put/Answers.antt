@@ -1,8 +1,8 @@
-use Rattle.std.proofs.Common.{◌≡◌, ℕ, ◌+◌, ◌-◌, ◌≤◌, List, map, length, get_or, take, drop, sym, refl, ap, ◌∙◌, subst, arith}
+use Rattle.std.proofs.Common.{◌≡◌, ℕ, ◌+◌, ◌-◌, ◌≤◌, List, map, length, take, drop, sym, refl, ap, ◌∙◌, subst, arith}
 use Rattle.std.proofs.lemmas.List.{length-take, length-drop, take_all}
-use Rattle.tape.specs.Tape.{Run, run, cell}
+use Rattle.tape.specs.Tape.{run, cell}
 use Rattle.tape.specs.Stores.{Unspoiled}
-use Rattle.interval.specs.IntervalStores.{interval_store_tape, interval_store_takes}
+use Rattle.interval.specs.IntervalStores.{interval_store_tape}
 use Rattle.interval.specs.declared.interval.IntervalStore.{IntervalStore}
 use Rattle.interval.specs.IntervalTapes.{interval_length}
 use Rattle.interval.proofs.Unspoiling.{unspoiled_none, unspoiled_then, unspoiled_length, map-take_then}

@@ -1,4 +1,4 @@
-use Rattle.std.proofs.Common.{◌≡◌, List, [], ◌∷◌, ◌++◌, map, length, take, sym, ap, ◌∙◌, subst, arith}
+use Rattle.std.proofs.Common.{List, map, take, sym, subst, arith}
 use Rattle.std.proofs.lemmas.List.{take_all, map_more, length-map, length-take-le}
 use Rattle.tape.specs.Tape.{cell}
 use Rattle.interval.specs.Gaps.{Spelled}

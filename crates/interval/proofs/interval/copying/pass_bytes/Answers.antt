@@ -1,4 +1,4 @@
-use Rattle.std.proofs.Common.{◌≡◌, ℕ, ◌+◌, ◌-◌, List, length, take, drop, sym, ap, ◌∙◌, arith}
+use Rattle.std.proofs.Common.{◌≡◌, ℕ, ◌+◌, ◌-◌, length, take, drop, ap, arith}
 use Rattle.std.specs.List.{flat_map}
 use Rattle.interval.specs.Intervals.{gap}
 use Rattle.interval.specs.GapReads.{length_then}

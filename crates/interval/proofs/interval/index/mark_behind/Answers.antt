@@ -1,4 +1,4 @@
-use Rattle.std.proofs.Common.{◌≡◌, ℕ, ◌+◌, ◌*◌, ◌/◌, ◌<◌, ap, arith}
+use Rattle.std.proofs.Common.{ℕ, ◌+◌, ◌*◌, ◌/◌, ◌<◌, ap, arith}
 use Rattle.interval.specs.Marks.{mark_stride}
 use Rattle.interval.proofs.StrideSteps.{stride_some, behind_at, mark-inside}
 use Rattle.interval.proofs.interval.index.mark_behind.Goals as goal

@@ -1,6 +1,5 @@
-use Rattle.std.proofs.Common.{◌≡◌, ℕ, zero, suc, Bool, true, false, get_or, replicate, vec_len, sym, refl, ap, ◌∙◌}
+use Rattle.std.proofs.Common.{◌≡◌, ℕ, zero, suc, true, false, get_or, replicate, vec_len, sym, refl, ap, ◌∙◌}
 use Rattle.std.proofs.lemmas.Bool.{cond-true, cond-false}
-use Rattle.packed.specs.Packed.{packed_tape}
 use Rattle.packed.specs.PackedStores.{packed_fits, packed_store_tape, packed_store_room}
 use Rattle.tape.specs.Stores.{Stores}
 use Rattle.packed.specs.PackedTapes.{packed_blank}

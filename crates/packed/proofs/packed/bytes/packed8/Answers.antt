@@ -1,4 +1,4 @@
-use Rattle.std.proofs.Common.{◌≡◌, ℕ, ◌+◌, ◌<◌, length, get_or, sym, ap, ◌∙◌, zero-add, arith}
+use Rattle.std.proofs.Common.{get_or, ap, ◌∙◌, zero-add, arith}
 use Rattle.packed.specs.Packed.{bit}
 use Rattle.packed.proofs.Words.{packed_eight}
 use Rattle.packed.proofs.packed.bytes.packed8.Goals as goal

@@ -1,4 +1,4 @@
-use Rattle.std.proofs.Common.{◌≡◌, ltb, length, Ok, sym, ap, ◌∙◌, arith}
+use Rattle.std.proofs.Common.{ltb, length, Ok, sym, ap, ◌∙◌, arith}
 use Rattle.std.proofs.lemmas.Bool.{cond-true, cond-false, lt-ltb, le-ltb}
 use Rattle.interval.specs.IntervalStores.{interval_store_tape}
 use Rattle.interval.specs.IntervalTapes.{interval_length, interval_track}

@@ -1,6 +1,5 @@
-use Rattle.std.proofs.Common.{◌≡◌, ltb, length, Ok, sym, ap, ◌∙◌, arith}
+use Rattle.std.proofs.Common.{ltb, length, Ok, sym, ap, ◌∙◌, arith}
 use Rattle.std.proofs.lemmas.Bool.{cond-true, cond-false, lt-ltb, le-ltb}
-use Rattle.tape.specs.Tape.{track}
 use Rattle.packed.specs.PackedStores.{packed_store_tape}
 use Rattle.packed.specs.PackedTapes.{packed_length, packed_track_length}
 use Rattle.packed.proofs.packed.store.PackedStoreReading.length.Goals as goal
