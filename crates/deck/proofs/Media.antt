@@ -1,6 +1,6 @@
 -- A cartridge of any kind, by its ghost members and laws, and what runs that are sent to it leave.
 use Rattle.std.proofs.Common.{◌≡◌, ℕ, ◌≤◌, List, [], ◌∷◌, ◌++◌, length, subst}
-use Rattle.std.specs.List.{AllByRecursion as All}
+use Rattle.std.specs.List.{AllByRecursion}
 use Rattle.tape.specs.Tape.{Tape, track, Cell, Run, Longer, Sends, Grown}
 use Rattle.tape.specs.Sendings.{sends_keep, sends_grow}
 use Rattle.replay.specs.Copies.{OfCartridge}
@@ -11,7 +11,7 @@ pub record Medium (S : Type 0) : Type 1 where
   pub room : S → ℕ
   pub takes : S → Run → S → Type 0
   pub few : (s : S) → length (cells s) ≤ 9
-  pub binary : (s : S) (t : ℕ) → All Cell (track (cells s) t)
+  pub binary : (s : S) (t : ℕ) → AllByRecursion Cell (track (cells s) t)
   pub grows : (s : S) (r : Run) (e : S) → takes s r e → Longer r (cells s) (cells e)
   pub keeps : (s : S) (r : Run) (e : S) → takes s r e → room e ≡ room s
 

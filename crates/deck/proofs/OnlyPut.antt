@@ -1,7 +1,7 @@
 -- On a new cartridge that spoils nothing the sound copies are those that were put.
 use Rattle.std.proofs.Common.{◌≡◌, ℕ, ◌+◌, ◌<◌, ◌≤◌, Bool, List, [], ◌∷◌, ◌++◌, length, sym, refl, ap, ◌∙◌, subst, inl, ⊎_elim, append_assoc, append-nil, arith}
 use lib.ListN.{get_or-replicate, length-replicate}
-use Rattle.std.specs.List.{AllByRecursion as All}
+use Rattle.std.specs.List.{AllByRecursion}
 use Rattle.std.proofs.lemmas.List.{get_or_past, length-append}
 use Rattle.std.proofs.lemmas.Bool.{cases_lt, cases_eq}
 use Rattle.qic24.specs.Copy.{Proper, ones, copy, preamble_ones}
@@ -122,7 +122,7 @@ only-blank n = record {
 }
 
 blank-cells : (n : ℕ) → n ≤ most_tracks → OfCartridge (blank n)
-blank-cells n h = record { few = omega (arith, length-replicate {A = List ℕ} n []); binary = λ t. subst (All Cell) (sym (blank-track n t)) tt }
+blank-cells n h = record { few = omega (arith, length-replicate {A = List ℕ} n []); binary = λ t. subst (AllByRecursion Cell) (sym (blank-track n t)) tt }
 
 -- all that was put on a new cartridge
 pub put_on_new : (room tracks : ℕ) → tracks ≤ most_tracks → (ds : List AnsweredCall) (log : List CopyAt) (c : Tape) (s : DeckState) (d : Made room (blank tracks) deck_idle ds log c s) → NoneSpoiled room (blank tracks) deck_idle ds log c s d → AllOfBytes ds → SoFar room c s log

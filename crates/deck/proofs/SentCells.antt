@@ -1,6 +1,6 @@
 -- The cells of a copy as they are sent.
 use Rattle.std.proofs.Common.{◌≡◌, ℕ, zero, suc, ◌+◌, ◌/◌, ◌%◌, ◌<◌, ◌≤◌, List, [], ◌∷◌, ◌++◌, map, length, get_or, take, replicate, Ok, Result, sym, ap, ◌∙◌, arith, lit<, MatchResult}
-use Rattle.std.specs.List.{AllByRecursion as All}
+use Rattle.std.specs.List.{AllByRecursion}
 use Rattle.std.proofs.ByRecursion.{All-append}
 use Rattle.std.proofs.lemmas.List.{take_at}
 use Rattle.std.proofs.lemmas.Result.{MatchResult-at_ok}
@@ -17,34 +17,34 @@ use Rattle.tape.proofs.Replies.{accepted}
 use Rattle.tape.proofs.Tapes.{cells_are}
 use Rattle.deck.proofs.CopyLengths.{Full}
 
-byte_binary : (b : ℕ) → All Cell (byte_cells b)
+byte_binary : (b : ℕ) → AllByRecursion Cell (byte_cells b)
 unfolding byte_cells nibble_cells
 byte_binary b = All-append Cell (bits 5 (get_or nibble_codes (b / 16) 0)) (bits 5 (get_or nibble_codes (b % 16) 0)) (bits-binary 5 (get_or nibble_codes (b / 16) 0)) (bits-binary 5 (get_or nibble_codes (b % 16) 0))
 
-coded-binary : (bs : List ℕ) → All Cell (coded bs)
+coded-binary : (bs : List ℕ) → AllByRecursion Cell (coded bs)
 coded-binary [] = tt
 coded-binary (b ∷ bs) = All-append Cell (byte_cells b) (coded bs) (byte_binary b) (coded-binary bs)
 
-marks-binary : (n : ℕ) → All Cell (joined (replicate n mark_cells))
+marks-binary : (n : ℕ) → AllByRecursion Cell (joined (replicate n mark_cells))
 unfolding mark_cells
 marks-binary zero = tt
 marks-binary (suc n) = All-append Cell mark_cells (joined (replicate n mark_cells)) (bits-binary 10 0b0010100101) (marks-binary n)
 
-data_binary : (x : Content) → All Cell (data_cells x)
+data_binary : (x : Content) → AllByRecursion Cell (data_cells x)
 unfolding mark_data
 data_binary (Block bs) = coded-binary bs
 data_binary Mark = marks-binary 512
 
-body-binary : (t : ℕ) (i : Numbered) → All Cell (body t i)
+body-binary : (t : ℕ) (i : Numbered) → AllByRecursion Cell (body t i)
 unfolding body
 body-binary t i = All-append Cell (data_cells i.content) (coded (address t i.number ++ two_bytes (item_crc t i))) (data_binary i.content) (coded-binary (address t i.number ++ two_bytes (item_crc t i)))
 
-ones-binary : (n : ℕ) → All Cell (ones n)
+ones-binary : (n : ℕ) → AllByRecursion Cell (ones n)
 unfolding ones
 ones-binary zero = tt
 ones-binary (suc n) = (lit< tt, ones-binary n)
 
-copy-binary : (p t : ℕ) (i : Numbered) → All Cell (copy p t i)
+copy-binary : (p t : ℕ) (i : Numbered) → AllByRecursion Cell (copy p t i)
 unfolding copy
 copy-binary p t i =
     let one : 1 < 2 = lit< tt in

@@ -1,6 +1,6 @@
 -- A medium that spoils nothing, and how recording goes there.
 use Rattle.std.specs.Prelude.{◌≡◌, ℕ, suc, ◌+◌, ◌-◌, ◌<◌, ◌≤◌, true, ◌⊎◌, ◌↔◌, List, [], ◌∷◌, length, ◌≢◌}
-use Rattle.std.specs.List.{AllByRecursion as All}
+use Rattle.std.specs.List.{AllByRecursion}
 use Rattle.tape.specs.Tape.{Tape, most_tracks, Run, Grown, blank}
 use Rattle.replay.specs.Copies.{OfCartridge, CopyAt, In, Sound}
 use Rattle.replay.specs.Seeking.{tape_replay}
@@ -23,7 +23,7 @@ NoneSpoiled room c s ds log e t (call_more {ds = rest} {log = later} call m g th
 -- a block that is handed in is of bytes
 abbrev pub OfBytes : DeckCall → Type 0
 OfBytes begin_call = Unit {0}
-OfBytes (write_call bs) = All (λ b. b < 256) bs
+OfBytes (write_call bs) = AllByRecursion (λ b. b < 256) bs
 OfBytes mark_call = Unit {0}
 OfBytes stop_call = Unit {0}
 

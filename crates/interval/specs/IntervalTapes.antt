@@ -2,7 +2,7 @@
 use Rattle.std.specs.Prelude.{◌≡◌, ℕ, zero, suc, ◌+◌, ◌*◌, ◌<◌, ◌≤◌, true, cond, ◌&&◌, List, [], ◌∷◌, ◌++◌, length, take, drop, replicate, Ok, Err, Result, ◌==◌, nat_le, nat_lt, slice_index, slice_set, refl}
 use Rattle.std.proofs.Common.{sym, subst, ◌∙◌, arith, length-drop}
 use Rattle.std.proofs.Math.Path.{ap}
-use Rattle.std.specs.List.{flat_map, AllByRecursion as All}
+use Rattle.std.specs.List.{flat_map, AllByRecursion}
 use Rattle.std.proofs.ByRecursion.{All-append, All-from_get_or}
 use Rattle.std.proofs.lemmas.List.{length-take-le, length-replicate, length-append, get_or-take, get_or-drop, get_or_default, get_or-replicate, same_lists}
 use Rattle.std.proofs.lemmas.Bool.{cond_both, and_parts, leb-true}
@@ -18,18 +18,18 @@ use Rattle.interval.specs.GapReads.{zeros_at}
 use Rattle.tape.proofs.Replies.{length-told}
 use Rattle.tape.proofs.Tapes.{length_by, track_by, each-track, by_blank}
 
-zeros_binary : (n : ℕ) → All Cell (replicate n 0)
+zeros_binary : (n : ℕ) → AllByRecursion Cell (replicate n 0)
 zeros_binary n = All-from_get_or Cell (replicate n 0) 0 (λ i h. subst Cell (sym (get_or-replicate n i 0 0 (omega (arith, length-replicate {A = ℕ} n 0)))) (omega arith))
 
-gap_binary : (b : ℕ) → All Cell (gap b)
+gap_binary : (b : ℕ) → AllByRecursion Cell (gap b)
 unfolding gap
-gap_binary b = All-append Cell (replicate b 0) _ (zeros_binary b) (cond_both (b == 255) [] (1 ∷ []) (All Cell) (λ e. tt) (λ e. (omega arith, tt)))
+gap_binary b = All-append Cell (replicate b 0) _ (zeros_binary b) (cond_both (b == 255) [] (1 ∷ []) (AllByRecursion Cell) (λ e. tt) (λ e. (omega arith, tt)))
 
-bytes_binary : (b : List ℕ) → All Cell (flat_map gap b)
+bytes_binary : (b : List ℕ) → AllByRecursion Cell (flat_map gap b)
 bytes_binary [] = tt
 bytes_binary (x ∷ b) = All-append Cell (gap x) (flat_map gap b) (gap_binary x) (bytes_binary b)
 
-cells_binary : (b : List ℕ) (n z : ℕ) → All Cell (interval_cells b n z)
+cells_binary : (b : List ℕ) (n z : ℕ) → AllByRecursion Cell (interval_cells b n z)
 unfolding interval_cells
 cells_binary b n z = All-append Cell (flat_map gap (take n b)) (replicate z 0) (bytes_binary (take n b)) (zeros_binary z)
 
@@ -55,9 +55,9 @@ module _ (m : List ℕ) (n c : ℕ) (u z : List ℕ) where
   unfolding interval_tape
   interval_inside h = each-track (λ x. length x ≤ c) n _ (omega arith) h
 
-  pub interval_binary : (t : ℕ) → All Cell (track (interval_tape m n c u z) t)
+  pub interval_binary : (t : ℕ) → AllByRecursion Cell (track (interval_tape m n c u z) t)
   unfolding interval_tape
-  interval_binary = each-track (All Cell) n _ tt (λ t. cells_binary (drop (t * c) m) (slice_index u t) (slice_index z t))
+  interval_binary = each-track (AllByRecursion Cell) n _ tt (λ t. cells_binary (drop (t * c) m) (slice_index u t) (slice_index z t))
 
   pub interval_blank : ((t : ℕ) → slice_index u t ≡ 0) → ((t : ℕ) → slice_index z t ≡ 0) → interval_tape m n c u z ≡ blank n
   unfolding interval_tape interval_cells

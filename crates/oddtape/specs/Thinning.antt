@@ -1,7 +1,7 @@
 -- Dropping every third one, cell by cell.
 use Rattle.std.specs.Prelude.{◌≡◌, ℕ, suc, ◌+◌, ◌-◌, ◌<◌, ◌≤◌, cond, List, [], ◌∷◌, ◌++◌, length, take, drop, ◌==◌, refl}
 use Rattle.std.proofs.Common.{sym, ap, subst, ◌∙◌, arith, take-take}
-use Rattle.std.specs.List.{AllByRecursion as All}
+use Rattle.std.specs.List.{AllByRecursion}
 use Rattle.std.proofs.ByRecursion.{All-from_get_or}
 use Rattle.std.proofs.lemmas.List.{length-take-le, get_or-take, drop-take}
 use Rattle.std.proofs.lemmas.Bool.{cond_both, eqb-false}
@@ -28,14 +28,14 @@ next_third n x h = cond_both (x == 0) n (cond (n == 2) 0 (n + 1)) (λ m. m < 3) 
 kept_cell : (n x : ℕ) → kept n x < 2
 kept_cell n x = cond_both (x == 0) 0 (cond (n == 2) 0 1) (λ m. m < 2) (λ _. omega arith) (λ _. cond_both (n == 2) 0 1 (λ m. m < 2) (λ _. omega arith) (λ _. omega arith))
 
-pub thinned_binary : (n : ℕ) (xs : List ℕ) → All Cell (thinned n xs)
+pub thinned_binary : (n : ℕ) (xs : List ℕ) → AllByRecursion Cell (thinned n xs)
 thinned_binary n [] = tt
 thinned_binary n (x ∷ xs) = (kept_cell n x, thinned_binary (next n x) xs)
 
 pub odd_length : (s : OddTape) → length (odd_cells s) ≡ s.used
 odd_length s = length-take-le s.used s.cells (omega arith)
 
-pub odd_binary : (s : OddTape) → All Cell (odd_cells s)
+pub odd_binary : (s : OddTape) → AllByRecursion Cell (odd_cells s)
 odd_binary s = All-from_get_or Cell (odd_cells s) 0 (λ i h.
     let l : i < s.used = omega (arith, odd_length s) in
     subst Cell (sym (get_or-take s.used s.cells i 0 l)) (s.binary i l))

@@ -5,7 +5,7 @@ use lib.Pow.{shl-shr}
 use Rattle.std.proofs.lemmas.List.{map-id, same_lists, get_or_default}
 use Rattle.std.proofs.lemmas.Bool.{cond_both}
 use Rattle.std.proofs.lemmas.List.FromFn.{get_or-map-range_with_len}
-use Rattle.std.specs.List.{range_with_len, AllByRecursion as All}
+use Rattle.std.specs.List.{range_with_len, AllByRecursion}
 use Rattle.tape.specs.Tape.{cell}
 use Rattle.packed.specs.Packed.{bit}
 use Rattle.packed.specs.Computed.{same_below, same_below_both}
@@ -24,7 +24,7 @@ repeated zero m = 0
 repeated (suc n) m = repeated n m * 256 + m
 
 module _ (f : ℕ → ℕ) (small : (b : ℕ) → b < 256 → f b < 256) where
-  and_words : (bs : List ℕ) (m : ℕ) → m < 256 → All Byte bs → bit_and (word (map f bs)) (repeated (length bs) m) ≡ word (map (λ b. bit_and (f b) m) bs)
+  and_words : (bs : List ℕ) (m : ℕ) → m < 256 → AllByRecursion Byte bs → bit_and (word (map f bs)) (repeated (length bs) m) ≡ word (map (λ b. bit_and (f b) m) bs)
   and_words [] m h k = refl
   and_words (b ∷ bs) m h (k, ks) = and_block 8 (word (map f bs)) (repeated (length bs) m) (f b) m (small b k) h ∙ ap (λ (w : ℕ). w * 256 + bit_and (f b) m) (and_words bs m h ks)
 
@@ -32,7 +32,7 @@ module _ (f : ℕ → ℕ) (small : (b : ℕ) → b < 256 → f b < 256) where
   add_words [] m = refl
   add_words (b ∷ bs) m = omega (arith, add_words bs m)
 
-  or_words : (bs : List ℕ) → All Byte bs → bit_or (word (map f bs)) (word bs) ≡ word (map (λ b. bit_or (f b) b) bs)
+  or_words : (bs : List ℕ) → AllByRecursion Byte bs → bit_or (word (map f bs)) (word bs) ≡ word (map (λ b. bit_or (f b) b) bs)
   or_words [] k = refl
   or_words (b ∷ bs) (k, ks) = or_block 8 (word (map f bs)) (word bs) (f b) b (small b k) k ∙ ap (λ (w : ℕ). w * 256 + bit_or (f b) b) (or_words bs ks)
 
@@ -61,12 +61,12 @@ carried_small b h = omega (arith, and_le_r b 127)
 joined_small : (b : ℕ) → b < 256 → joined b < 256
 joined_small b h = or_lt 8 (carried b) b (carried_small b h) h
 
-high_words : (bs : List ℕ) → All Byte bs → word (map high bs) ≡ word (map cell bs) * 128
+high_words : (bs : List ℕ) → AllByRecursion Byte bs → word (map high bs) ≡ word (map cell bs) * 128
 high_words [] k = refl
 high_words (b ∷ bs) (k, ks) = omega (arith, high_is b k, high_words bs ks)
 
 -- the arithmetic on the word of some bytes, up to the shift
-pub ones_of : (bs : List ℕ) → All Byte bs
+pub ones_of : (bs : List ℕ) → AllByRecursion Byte bs
     → bit_and (bit_or (bit_and (word bs) (repeated (length bs) 127) + repeated (length bs) 127) (word bs)) (repeated (length bs) 128) / 128 ≡ word (map cell bs)
 ones_of bs k =
     let n = length bs in

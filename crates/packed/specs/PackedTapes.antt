@@ -3,7 +3,7 @@ use Rattle.std.specs.Prelude.{◌≡◌, ℕ, ◌+◌, ◌*◌, ◌/◌, ◌<◌
 use Rattle.std.proofs.Math.Path.{sym, ap}
 use Rattle.std.proofs.Common.{subst, ◌∙◌, inl, inr, arith, add-mul, one-mul}
 use Rattle.std.proofs.Math.ListN.{length-drop}
-use Rattle.std.specs.List.{range_with_len, AllByRecursion as All}
+use Rattle.std.specs.List.{range_with_len, AllByRecursion}
 use Rattle.std.proofs.lemmas.Nat.{mul-le}
 use Rattle.std.proofs.ByRecursion.{All-from_get_or}
 use Rattle.std.proofs.lemmas.List.{length-take-le, get_or-take, get_or-drop, get_or-set_same, get_or-set_other, same_lists}
@@ -24,7 +24,7 @@ pub length_cells : (b : List ℕ) (base n : ℕ) → length (packed_cells b base
 unfolding packed_cells
 length_cells b base n = length-map-range_with_len (packed_cell b base) 0 n
 
-cells_binary : (b : List ℕ) (base n : ℕ) → All Cell (packed_cells b base n)
+cells_binary : (b : List ℕ) (base n : ℕ) → AllByRecursion Cell (packed_cells b base n)
 unfolding packed_cells packed_cell
 cells_binary b base n = All-from_get_or Cell (packed_cells b base n) 0 (λ i h.
     let l : i < n = omega (arith, length_cells b base n) in
@@ -50,9 +50,9 @@ module _ (b : List ℕ) (n c : ℕ) (u : List ℕ) where
   unfolding packed_tape
   packed_inside h = each-track (λ x. length x ≤ c) n _ (omega arith) (λ t. omega (arith, h t, length_cells b (t * packed_bytes c) (slice_index u t)))
 
-  pub packed_binary : (t : ℕ) → All Cell (track (packed_tape b n c u) t)
+  pub packed_binary : (t : ℕ) → AllByRecursion Cell (track (packed_tape b n c u) t)
   unfolding packed_tape
-  packed_binary = each-track (All Cell) n _ tt (λ t. cells_binary b (t * packed_bytes c) (slice_index u t))
+  packed_binary = each-track (AllByRecursion Cell) n _ tt (λ t. cells_binary b (t * packed_bytes c) (slice_index u t))
 
   pub packed_blank : ((t : ℕ) → slice_index u t ≡ 0) → packed_tape b n c u ≡ blank n
   unfolding packed_tape packed_cells

@@ -1,7 +1,7 @@
 -- Cells as numbers and numbers as cells.
 use Rattle.std.proofs.Common.{◌≡◌, ℕ, zero, suc, ◌+◌, ◌*◌, ◌/◌, ◌%◌, ◌^◌, ◌<◌, ◌≤◌, eqb, List, [], ◌∷◌, ◌++◌, map, length, get_or, take, replicate, sym, refl, ap, ◌∙◌, subst, add-zero, add-suc, suc-add, pow-suc, zero-add, add-one, arith, lit<, lit≤}
 use native.Mathlib.Nat.{min-le_left}
-use Rattle.std.specs.List.{AllByRecursion as All}
+use Rattle.std.specs.List.{AllByRecursion}
 use Rattle.std.proofs.lemmas.List.{length_push, length-append, append-nil, append_assoc, take_more, take_all, length-take-le, map_more, replicate_more, length-replicate, length-map, length-take}
 use Rattle.std.proofs.lemmas.Nat.{pow_below}
 use Rattle.std.proofs.ByRecursion.{All-push, All-take, All-get_or}
@@ -23,7 +23,7 @@ unfolding bits
 length-bits zero v = refl
 length-bits (suc n) v = length_push (bits n (v / 2)) (v % 2) ∙ ap (λ k. k + 1) (length-bits n (v / 2)) ∙ add-one n
 
-pub bits-binary : (n v : ℕ) → All Cell (bits n v)
+pub bits-binary : (n v : ℕ) → AllByRecursion Cell (bits n v)
 unfolding bits
 bits-binary zero v = tt
 bits-binary (suc n) v = All-push Cell (bits n (v / 2)) (v % 2) (bits-binary n (v / 2)) (omega arith)
@@ -36,16 +36,16 @@ number_of-bits (suc n) v h =
     number_of-push (bits n (v / 2)) (v % 2) ∙ ap (λ k. k * 2 + v % 2) (number_of-bits n (v / 2) (omega arith)) ∙ omega arith
 
 -- from a number z on
-from-below : (xs : List ℕ) (z n : ℕ) → All Cell xs → z < 2 ^ n → fold shift_in z xs < 2 ^ (n + length xs)
+from-below : (xs : List ℕ) (z n : ℕ) → AllByRecursion Cell xs → z < 2 ^ n → fold shift_in z xs < 2 ^ (n + length xs)
 from-below [] z n h k = subst (λ m. z < 2 ^ m) (sym (add-zero n)) k
 from-below (x ∷ xs) z n (h, hs) k =
     let p = pow-suc 2 n in
     subst (λ m. fold shift_in (z * 2 + x) xs < 2 ^ m) (suc-add n (length xs) ∙ sym (add-suc n (length xs))) (from-below xs (z * 2 + x) (suc n) hs (omega arith))
 
-pub number_of-below : (xs : List ℕ) → All Cell xs → number_of xs < 2 ^ length xs
+pub number_of-below : (xs : List ℕ) → AllByRecursion Cell xs → number_of xs < 2 ^ length xs
 number_of-below xs h = subst (λ m. number_of xs < 2 ^ m) (zero-add (length xs)) (from-below xs 0 0 h (lit< tt))
 
-bits-number-at : (n : ℕ) (xs : List ℕ) → length xs ≡ n → All Cell xs → bits n (number_of xs) ≡ xs
+bits-number-at : (n : ℕ) (xs : List ℕ) → length xs ≡ n → AllByRecursion Cell xs → bits n (number_of xs) ≡ xs
 unfolding bits
 bits-number-at zero [] e h = refl
 bits-number-at zero (x ∷ xs) e h = absurd (omega arith)
@@ -60,13 +60,13 @@ bits-number-at (suc n) xs e h =
     let m : number_of xs % 2 ≡ d = omega arith in
     rw (q, m, i) s
 
-pub bits-number : (xs : List ℕ) → All Cell xs → bits (length xs) (number_of xs) ≡ xs
+pub bits-number : (xs : List ℕ) → AllByRecursion Cell xs → bits (length xs) (number_of xs) ≡ xs
 bits-number xs h = bits-number-at (length xs) xs refl h
 
 pub cell-binary : (b : ℕ) → cell b < 2
 cell-binary b = cond_both (eqb b 0) 0 1 (λ x. x < 2) (λ e. omega arith) (λ e. omega arith)
 
-pub cells_binary : (bs : List ℕ) → All Cell (map cell bs)
+pub cells_binary : (bs : List ℕ) → AllByRecursion Cell (map cell bs)
 cells_binary [] = tt
 cells_binary (b ∷ bs) = (cell-binary b, cells_binary bs)
 

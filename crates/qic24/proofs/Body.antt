@@ -1,6 +1,6 @@
 -- The body of a proper item, as entries of the reading table.
 use Rattle.std.proofs.Common.{◌≡◌, ℕ, zero, suc, ◌+◌, ◌<◌, ◌≤◌, false, List, [], ◌∷◌, ◌++◌, map, length, take, replicate, sym, refl, ap, ◌∙◌, arith, lit<}
-use Rattle.std.specs.List.{AllByRecursion as All}
+use Rattle.std.specs.List.{AllByRecursion}
 use Rattle.std.proofs.lemmas.List.{length-append, length-replicate}
 use Rattle.std.proofs.ByRecursion.{All-weaker}
 use Rattle.qic24.specs.Cells.{joined, mark_cells}
@@ -27,7 +27,7 @@ tail_bytes t i = address t i.number ++ two_bytes (item_crc t i)
 abbrev pub entries : ℕ → Numbered → List ℕ
 entries t i = data_entries i.content ++ tail_bytes t i
 
-coded_spelled : (bs : List ℕ) → All (λ b. b < 256) bs → coded bs ≡ spelled bs
+coded_spelled : (bs : List ℕ) → AllByRecursion (λ b. b < 256) bs → coded bs ≡ spelled bs
 coded_spelled [] h = refl
 coded_spelled (b ∷ bs) (h, hs) = ap (λ (z : List ℕ). z ++ coded bs) (sym (byte_entry b h)) ∙ ap (λ (z : List ℕ). entry-cells b ++ z) (coded_spelled bs hs)
 
@@ -43,7 +43,7 @@ data_spelled : (x : Content) → ProperContent x → data_cells x ≡ spelled (d
 data_spelled (Block bs) h = coded_spelled bs h.1
 data_spelled Mark h = mark_data_spelled
 
-pub tail_small : (t : ℕ) (i : Numbered) → t < 256 → i.number ≤ 1048575 → All (λ b. b < 256) (tail_bytes t i)
+pub tail_small : (t : ℕ) (i : Numbered) → t < 256 → i.number ≤ 1048575 → AllByRecursion (λ b. b < 256) (tail_bytes t i)
 tail_small t i h k =
     let c = crc-below (counted i.content ++ address t i.number) in
     (h, (omega arith, (omega arith, (omega arith, (omega arith, (omega arith, tt))))))
@@ -66,11 +66,11 @@ length_data Mark h = length-mark_entries
 pub length_entries : (t : ℕ) (i : Numbered) → ProperContent i.content → length (entries t i) ≡ 518
 length_entries t i h = length-append (data_entries i.content) (tail_bytes t i) ∙ ap (λ n. n + 6) (length_data i.content h)
 
-marks-small : (n : ℕ) → All (λ e. e < 257) (replicate n 256)
+marks-small : (n : ℕ) → AllByRecursion (λ e. e < 257) (replicate n 256)
 marks-small zero = tt
 marks-small (suc n) = (lit< tt, marks-small n)
 
-pub data_small : (x : Content) → ProperContent x → All (λ e. e < 257) (data_entries x)
+pub data_small : (x : Content) → ProperContent x → AllByRecursion (λ e. e < 257) (data_entries x)
 unfolding mark_entries
 data_small (Block bs) h = All-weaker (λ b. b < 256) (λ b. b < 257) (λ b k. omega arith) bs h.1
 data_small Mark h = marks-small 512

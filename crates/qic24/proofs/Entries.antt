@@ -1,6 +1,6 @@
 -- A body as 518 groups, each the cells of a table entry.
 use Rattle.std.proofs.Common.{◌≡◌, ℕ, zero, suc, ◌+◌, ◌*◌, ◌/◌, ◌%◌, ◌^◌, ◌<◌, ◌≤◌, Bool, true, false, cond, ◌||◌, eqb, ◌⊎◌, List, [], ◌∷◌, ◌++◌, map, length, get_or, take, drop, replicate, Some, None, Option, sym, refl, ap, ◌∙◌, subst, inl, inr, ⊎_elim, le_of_suc-le-suc, not-suc-le-zero, add-zero, add-suc, suc-add, arith, lit<, take-add}
-use Rattle.std.specs.List.{AllByRecursion as All}
+use Rattle.std.specs.List.{AllByRecursion}
 use Rattle.std.proofs.lemmas.List.{append_assoc, length-append, length-take-le, length-drop, take_at, drop_at}
 use Rattle.std.proofs.ByRecursion.{All-append, All-take, All-drop}
 use Rattle.std.proofs.lemmas.Bool.{cond_both, cond-true, cond-false, ne_eqb, eqb-true, eqb-false, or_cases}
@@ -26,17 +26,17 @@ pub length-entry : (e : ℕ) → length (entry-cells e) ≡ 10
 unfolding entry-cells
 length-entry e = cond_both (eqb e 256) mark_cells (byte_cells e) (λ z. length z ≡ 10) (λ _. ap (λ (z : List ℕ). length z) mark_cells-is) (λ _. length_byte e)
 
-byte_binary : (b : ℕ) → All Cell (byte_cells b)
+byte_binary : (b : ℕ) → AllByRecursion Cell (byte_cells b)
 unfolding byte_cells nibble_cells
 byte_binary b = All-append Cell (bits 5 (get_or nibble_codes (b / 16) 0)) (bits 5 (get_or nibble_codes (b % 16) 0)) (bits-binary 5 (get_or nibble_codes (b / 16) 0)) (bits-binary 5 (get_or nibble_codes (b % 16) 0))
 
-mark-binary : All Cell mark_cells
+mark-binary : AllByRecursion Cell mark_cells
 unfolding mark_cells
 mark-binary = bits-binary 10 0b0010100101
 
-pub binary-entry : (e : ℕ) → All Cell (entry-cells e)
+pub binary-entry : (e : ℕ) → AllByRecursion Cell (entry-cells e)
 unfolding entry-cells
-binary-entry e = cond_both (eqb e 256) mark_cells (byte_cells e) (All Cell) (λ _. mark-binary) (λ _. byte_binary e)
+binary-entry e = cond_both (eqb e 256) mark_cells (byte_cells e) (AllByRecursion Cell) (λ _. mark-binary) (λ _. byte_binary e)
 
 -- a group as a number
 abbrev pub group_number : ℕ → ℕ
@@ -83,7 +83,7 @@ groups_spelled (e ∷ es) rest =
     ap (λ (z : List ℕ). number_of z ∷ groups (length es) (drop 10 ((entry-cells e ++ spelled es) ++ rest))) t ∙ ap (λ (z : List ℕ). group_number e ∷ groups (length es) z) d ∙ ap (λ (z : List ℕ). group_number e ∷ z) (groups_spelled es rest)
 
 -- groups that are all codes spell the cells
-pub spelled_groups : (n : ℕ) (c : List ℕ) → All Cell c → n * 10 ≤ length c → All (λ g. entry g ≤ 256) (groups n c) → spelled (map entry (groups n c)) ≡ take (n * 10) c
+pub spelled_groups : (n : ℕ) (c : List ℕ) → AllByRecursion Cell c → n * 10 ≤ length c → AllByRecursion (λ g. entry g ≤ 256) (groups n c) → spelled (map entry (groups n c)) ≡ take (n * 10) c
 unfolding groups
 spelled_groups zero c h k a = refl
 spelled_groups (suc n) c h k (a, more) =
@@ -119,7 +119,7 @@ abbrev pub counts_as : ℕ → ℕ
 counts_as e = cond (eqb e 256) 0xFF e
 
 -- entries that are bytes, and entries that are mark bytes
-pub plain_bytes : (es : List ℕ) → All (λ e. e < 256) es → (map byte_of (map group_number es) ≡ es) × (marks_in (map group_number es) ≡ 0)
+pub plain_bytes : (es : List ℕ) → AllByRecursion (λ e. e < 256) es → (map byte_of (map group_number es) ≡ es) × (marks_in (map group_number es) ≡ 0)
 plain_bytes [] h = (refl, refl)
 plain_bytes (e ∷ es) (h, hs) =
     let i = plain_bytes es hs in
@@ -149,12 +149,12 @@ marks-most [] = omega arith
 marks-most (g ∷ gs) = cond_both (eqb (entry g) 256) 1 0 (λ n. n + marks_in gs ≤ suc (length gs)) (λ _. omega (arith, marks-most gs)) (λ _. omega (arith, marks-most gs))
 
 -- no mark byte: the bytes are the entries
-pub marks-none : (gs : List ℕ) → marks_in gs ≡ 0 → All (λ g. entry g ≤ 256) gs → (map byte_of gs ≡ map entry gs) × All (λ e. e < 256) (map entry gs)
+pub marks-none : (gs : List ℕ) → marks_in gs ≡ 0 → AllByRecursion (λ g. entry g ≤ 256) gs → (map byte_of gs ≡ map entry gs) × AllByRecursion (λ e. e < 256) (map entry gs)
 marks-none [] e a = (refl, tt)
 marks-none (g ∷ gs) e (a, more) = by (eqb (entry g) 256) refl e (λ z. marks-none gs z more)
   where
-    by : (b : Bool) → eqb (entry g) 256 ≡ b → cond b 1 0 + marks_in gs ≡ 0 → (marks_in gs ≡ 0 → (map byte_of gs ≡ map entry gs) × All (λ e. e < 256) (map entry gs)) →
-        (map byte_of (g ∷ gs) ≡ map entry (g ∷ gs)) × All (λ e. e < 256) (map entry (g ∷ gs))
+    by : (b : Bool) → eqb (entry g) 256 ≡ b → cond b 1 0 + marks_in gs ≡ 0 → (marks_in gs ≡ 0 → (map byte_of gs ≡ map entry gs) × AllByRecursion (λ e. e < 256) (map entry gs)) →
+        (map byte_of (g ∷ gs) ≡ map entry (g ∷ gs)) × AllByRecursion (λ e. e < 256) (map entry (g ∷ gs))
     by true p q tail = absurd (omega arith)
     by false p q tail =
         let i = tail (omega arith) in

@@ -1,6 +1,6 @@
 -- Cells are read as an item exactly when they are that item's.
 use Rattle.std.proofs.Common.{◌≡◌, ℕ, ◌+◌, ◌-◌, ◌*◌, ◌/◌, ◌%◌, ◌<◌, ◌≤◌, false, ◌&&◌, eqb, leb, List, ◌++◌, map, length, get_or, take, drop, None, Ok, sym, ap, ◌∙◌, subst, ⊎_elim, zero-add, arith, lit≤}
-use Rattle.std.specs.List.{AllByRecursion as All}
+use Rattle.std.specs.List.{AllByRecursion}
 use Rattle.std.proofs.lemmas.List.{append_assoc, length-append, length-map, take_at, take-append-drop, map-append, get_or-append_right, get_or-map, length-take}
 use Rattle.std.proofs.ByRecursion.{All-append, All-get_or, All-weaker}
 use Rattle.std.proofs.lemmas.Bool.{cases_lt, ne_eqb, lt-leb, or_from, and_left, and_right}
@@ -28,7 +28,7 @@ module _ (t : ℕ) (i : Numbered) (h : t < 256) (p : Proper i) where
   read : (j : ℕ) → j < 518 → entry (get_or (map group_number (entries t i)) j 0) ≡ get_or (entries t i) j 0
   read j k =
       let l = length_entries t i p.content in
-      let small : All (λ e. e < 257) (entries t i) = All-append (λ e. e < 257) (data_entries i.content) (tail_bytes t i) (data_small i.content p.content)
+      let small : AllByRecursion (λ e. e < 257) (entries t i) = All-append (λ e. e < 257) (data_entries i.content) (tail_bytes t i) (data_small i.content p.content)
       (All-weaker (λ e. e < 256) (λ e. e < 257) (λ e q. omega arith) (tail_bytes t i) (tail_small t i h p.most)) in
       ap entry (get_or-map group_number (entries t i) j 0 0 (omega arith)) ∙ entry_of_number (get_or (entries t i) j 0) (All-get_or (λ e. e < 257) (entries t i) j 0 (omega arith) small)
 
@@ -36,7 +36,7 @@ module _ (t : ℕ) (i : Numbered) (h : t < 256) (p : Proper i) where
   stands j k =
       let l = length_entries t i p.content in
       let ld = length_data i.content p.content in
-      let small : All (λ e. e < 257) (entries t i) = All-append (λ e. e < 257) (data_entries i.content) (tail_bytes t i) (data_small i.content p.content)
+      let small : AllByRecursion (λ e. e < 257) (entries t i) = All-append (λ e. e < 257) (data_entries i.content) (tail_bytes t i) (data_small i.content p.content)
       (All-weaker (λ e. e < 256) (λ e. e < 257) (λ e q. omega arith) (tail_bytes t i) (tail_small t i h p.most)) in
       may_stand j (get_or (entries t i) j 0) (All-get_or (λ e. e < 257) (entries t i) j 0 (omega arith) small)
       (λ q. subst (λ e. e < 256) (sym (get_or-append_right (data_entries i.content) (tail_bytes t i) 512 j 0 ld q)) (All-get_or (λ e. e < 256) (tail_bytes t i) (j - 512) 0 (omega arith) (tail_small t i h p.most)))

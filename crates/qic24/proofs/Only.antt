@@ -1,6 +1,6 @@
 -- Cells that are read as an item are that item's.
 use Rattle.std.proofs.Common.{◌≡◌, ℕ, ◌+◌, ◌*◌, ◌/◌, ◌%◌, ◌<◌, ◌≤◌, false, not, ◌&&◌, eqb, leb, List, [], ◌∷◌, ◌++◌, map, length, get_or, take, drop, replicate, None, Ok, sym, refl, ap, ◌∙◌, subst, ⊎_elim, zero-add, arith, lit≤}
-use Rattle.std.specs.List.{AllByRecursion as All}
+use Rattle.std.specs.List.{AllByRecursion}
 use Rattle.std.proofs.lemmas.List.{append_assoc, length-append, length-map, length-drop, length-take-le, take_at, take-append-drop, map-append, get_or-append_right, get_or-drop}
 use Rattle.std.proofs.ByRecursion.{All-get_or, All-from_get_or, All-take, All-weaker}
 use Rattle.std.proofs.lemmas.Bool.{cases_eq, ne_eqb, eq-eqb, le-leb, or_parts, and_cases, eqb-false, eqb-true, cond-true, cond-false, not-false, both_ways}
@@ -33,7 +33,7 @@ marks_data X bs n l e m =
     let a = marks-all X (m ∙ sym l) in
     record { proper = tt; same = sym (a.1 ∙ ap (λ k. replicate k 256) (l ∙ e)); counts = sym (a.0 ∙ ap (λ k. replicate k 0xFF) (l ∙ e)) }
 
-data_of : (X bs : List ℕ) (m : ℕ) → length X ≡ 512 → take 512 bs ≡ map byte_of X → All (λ g. entry g ≤ 256) X → marks_in X ≡ m → mixed m ≡ false → Data X bs (content_in m bs)
+data_of : (X bs : List ℕ) (m : ℕ) → length X ≡ 512 → take 512 bs ≡ map byte_of X → AllByRecursion (λ g. entry g ≤ 256) X → marks_in X ≡ m → mixed m ≡ false → Data X bs (content_in m bs)
 data_of X bs m l e a k q =
     ⊎_elim
     (λ (z : m ≡ 0).
@@ -41,7 +41,7 @@ data_of X bs m l e a k q =
     let s : content_in m bs ≡ Block (take 512 bs) = cond-true (eqb m 0) (Block (take 512 bs)) Mark (eq-eqb m 0 z) in
     let b : take 512 bs ≡ map entry X = e ∙ n.0 in
     subst (Data X bs) (sym s)
-    (record { proper = (ap (λ (z : List ℕ). length z) b ∙ length-map X entry ∙ l, subst (All (λ b. b < 256)) (sym b) n.1); same = b; counts = e }))
+    (record { proper = (ap (λ (z : List ℕ). length z) b ∙ length-map X entry ∙ l, subst (AllByRecursion (λ b. b < 256)) (sym b) n.1); same = b; counts = e }))
     (λ (z : m ≡ 0 → ⊥).
     let s : content_in m bs ≡ Mark = cond-false (eqb m 0) (Block (take 512 bs)) Mark (ne_eqb m 0 z) in
     let w : m ≡ 512 = ⊎_elim (λ p. absurd (z (eqb-true m 0 (not-false (eqb m 0) p)))) (λ p. eqb-true m 512 (not-false (eqb m 512) p)) (and_cases (not (eqb m 0)) (not (eqb m 512)) q) in
@@ -64,7 +64,7 @@ six_bytes t D x a b c d f g l e hb hc hd hf hg k ta ctl =
     let kg : (f * 256 + g) % 256 ≡ g = omega arith in
     ap (λ (z : List ℕ). z ++ two_bytes (item_crc t (record { number = n; content = x }))) ad ∙ ap (λ v. a ∷ b ∷ c ∷ d ∷ two_bytes v) cr ∙ ap (λ v. a ∷ b ∷ c ∷ d ∷ v ∷ (f * 256 + g) % 256 ∷ []) kf ∙ ap (λ v. a ∷ b ∷ c ∷ d ∷ f ∷ v ∷ []) kg
 
-tail_of : (t : ℕ) (D T : List ℕ) (x : Content) → length D ≡ 512 → length T ≡ 6 → All (λ b. b < 256) T → counted x ≡ D →
+tail_of : (t : ℕ) (D T : List ℕ) (x : Content) → length D ≡ 512 → length T ≡ 6 → AllByRecursion (λ b. b < 256) T → counted x ≡ D →
     crc (take 516 (D ++ T)) ≡ word_at (D ++ T) 516 → get_or (D ++ T) 512 0 ≡ t → get_or (D ++ T) 513 0 / 16 ≡ 0 →
     tail_bytes t (record { number = number_in (D ++ T); content = x }) ≡ T
 tail_of t D [] x l m h e k ta ctl = absurd (omega arith)
@@ -90,7 +90,7 @@ tail_of t D (a ∷ b ∷ c ∷ d ∷ f ∷ g ∷ []) x l m (ha, (hb, (hc, (hd, (
     six_bytes t D x a b c d f g l e hb hc hd hf hg (ap crc (sym s) ∙ k ∙ w) (sym a' ∙ ta) (ap (λ z. z / 16) (sym b') ∙ ctl)
 
 -- groups past the data hold no mark byte
-no_marks : (Y : List ℕ) → All (λ g. entry g < 256) Y → marks_in Y ≡ 0
+no_marks : (Y : List ℕ) → AllByRecursion (λ g. entry g < 256) Y → marks_in Y ≡ 0
 no_marks [] h = refl
 no_marks (g ∷ Y) (h, hs) = ap (λ n. n + marks_in Y) (cond-false (eqb (entry g) 256) 1 0 (ne_eqb (entry g) 256 (λ q. omega arith))) ∙ omega (arith, no_marks Y hs)
 
@@ -106,7 +106,7 @@ number-most : (bs : List ℕ) → get_or bs 514 0 < 256 → get_or bs 515 0 < 25
 number-most bs h k = omega arith
 
 -- the item that X, the groups of the data, and Y, those after it, are read as
-item_of : (t : ℕ) (X Y : List ℕ) (i : Numbered) → length X ≡ 512 → length Y ≡ 6 → All (λ g. entry g ≤ 256) X → All (λ g. entry g < 256) Y →
+item_of : (t : ℕ) (X Y : List ℕ) (i : Numbered) → length X ≡ 512 → length Y ≡ 6 → AllByRecursion (λ g. entry g ≤ 256) X → AllByRecursion (λ g. entry g < 256) Y →
     JudgedOk t (marks_in (X ++ Y)) (map byte_of (X ++ Y)) i → Proper i × (entries t i ≡ map entry (X ++ Y))
 item_of t X Y i lX lY hX hY j =
     let noY = no_marks Y hY in
@@ -119,7 +119,7 @@ item_of t X Y i lX lY hX hY j =
     let mX : marks_in X ≡ marks_in (X ++ Y) = sym (marks-append X Y ∙ omega arith) in
     by (map byte_of (X ++ Y)) (marks_in (X ++ Y)) D T lD lT split nY.1 mX refl refl j
   where
-    by : (bs : List ℕ) (m : ℕ) (D T : List ℕ) → length D ≡ 512 → length T ≡ 6 → bs ≡ D ++ T → All (λ b. b < 256) T → marks_in X ≡ m → D ≡ map byte_of X → T ≡ map entry Y → JudgedOk t m bs i →
+    by : (bs : List ℕ) (m : ℕ) (D T : List ℕ) → length D ≡ 512 → length T ≡ 6 → bs ≡ D ++ T → AllByRecursion (λ b. b < 256) T → marks_in X ≡ m → D ≡ map byte_of X → T ≡ map entry Y → JudgedOk t m bs i →
         Proper i × (data_entries i.content ++ tail_bytes t i ≡ map entry (X ++ Y))
     by bs m D T lD lT split small mX eD eT j₀ =
         let j = subst (λ z. JudgedOk t m z i) split j₀ in
@@ -135,7 +135,7 @@ item_of t X Y i lX lY hX hY j =
         ap (λ (z : List ℕ). data_entries x ++ z) (tl ∙ eT) ∙ ap (λ (z : List ℕ). z ++ map entry Y) dat.same ∙ sym (map-append entry X Y) in
         subst (λ (i : Numbered). Proper i × (data_entries i.content ++ tail_bytes t i ≡ map entry (X ++ Y))) (sym j.item) (pr, en)
 
-pub reads_only : (t : ℕ) (c : List ℕ) (i : Numbered) → t < 256 → All Cell c → decoded t c ≡ Ok i → Proper i × (take 5180 c ≡ body t i)
+pub reads_only : (t : ℕ) (c : List ℕ) (i : Numbered) → t < 256 → AllByRecursion Cell c → decoded t c ≡ Ok i → Proper i × (take 5180 c ≡ body t i)
 reads_only t c i h cs e = by (groups 518 c) refl (decoded-ok t c i e)
   where
     by : (gs : List ℕ) → groups 518 c ≡ gs → DecodedOk t c i → Proper i × (take 5180 c ≡ body t i)
@@ -143,12 +143,12 @@ reads_only t c i h cs e = by (groups 518 c) refl (decoded-ok t c i e)
         let lg : length gs ≡ 518 = ap (λ (z : List ℕ). length z) (sym q) ∙ length-groups 518 c in
         let codes : first_fault 0 gs ≡ None = ap (first_fault 0) (sym q) ∙ d.codes in
         let code : (k : ℕ) → k < 518 → no_code_at k (entry (get_or gs k 0)) ≡ false = λ k r. ap (λ z. no_code_at z (entry (get_or gs k 0))) (sym (zero-add k)) ∙ codes-from gs 0 codes k (omega arith) in
-        let small : All (λ g. entry g ≤ 256) gs = All-from_get_or (λ g. entry g ≤ 256) gs 0 (λ k r. code_small k (get_or gs k 0) (code k (omega arith))) in
+        let small : AllByRecursion (λ g. entry g ≤ 256) gs = All-from_get_or (λ g. entry g ≤ 256) gs 0 (λ k r. code_small k (get_or gs k 0) (code k (omega arith))) in
         let lY : length (drop 512 gs) ≡ 6 = length-drop 512 gs ∙ omega arith in
-        let past : All (λ g. entry g < 256) (drop 512 gs) = All-from_get_or (λ g. entry g < 256) (drop 512 gs) 0
+        let past : AllByRecursion (λ g. entry g < 256) (drop 512 gs) = All-from_get_or (λ g. entry g < 256) (drop 512 gs) 0
         (λ k r. subst (λ g. entry g < 256) (sym (get_or-drop 512 gs k 0)) (byte_past gs k code (omega arith))) in
         let g = take-append-drop 512 gs in
         let r = item_of t (take 512 gs) (drop 512 gs) i (length-take-le 512 gs (omega arith)) lY (All-take (λ g. entry g ≤ 256) 512 gs small) past
         (subst (λ (z : List ℕ). JudgedOk t (marks_in z) (map byte_of z) i) (q ∙ sym g) d.judging) in
-        let s : spelled (map entry gs) ≡ take 5180 c = ap (λ (z : List ℕ). spelled (map entry z)) (sym q) ∙ spelled_groups 518 c cs d.long (subst (All (λ g. entry g ≤ 256)) (sym q) small) in
+        let s : spelled (map entry gs) ≡ take 5180 c = ap (λ (z : List ℕ). spelled (map entry z)) (sym q) ∙ spelled_groups 518 c cs d.long (subst (AllByRecursion (λ g. entry g ≤ 256)) (sym q) small) in
         (r.0, sym s ∙ ap (λ (z : List ℕ). spelled (map entry z)) (sym g) ∙ ap spelled (sym r.1) ∙ sym (body_spelled t i h r.0))

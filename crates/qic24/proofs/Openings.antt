@@ -1,7 +1,7 @@
 -- A register of the last fourteen cells shows the opening exactly where one ends.
 use Rattle.std.proofs.Common.{◌≡◌, ℕ, suc, ◌+◌, ◌-◌, ◌*◌, ◌%◌, ◌^◌, ◌<◌, ◌≤◌, List, [], ◌∷◌, ◌++◌, length, get_or, take, drop, sym, refl, ap, ◌∙◌, subst, ⊎_elim, mul_assoc, mul_comm, add-mul, pow-suc, zero-add, arith, lit<}
 use native.Mathlib.Nat.{pow-le-pow_right}
-use Rattle.std.specs.List.{AllByRecursion as All}
+use Rattle.std.specs.List.{AllByRecursion}
 use Rattle.std.proofs.lemmas.List.{take-append-drop, length-take-le, length-drop, drop-drop, drop-take, take_more, length-take, get_or-drop}
 use Rattle.std.proofs.ByRecursion.{All-take, All-drop, All-get_or}
 use Rattle.std.proofs.lemmas.Bool.{cases_lt}
@@ -22,7 +22,7 @@ from-number (x ∷ xs) z =
     from-number xs (z * 2 + x) ∙ omega (arith, d, m) ∙ k
 
 -- the last fourteen of some cells as a number
-low_part : (xs : List ℕ) (n : ℕ) → All Cell xs → length xs ≡ n → 14 ≤ n → number_of xs % 16384 ≡ number_of (drop (n - 14) xs)
+low_part : (xs : List ℕ) (n : ℕ) → AllByRecursion Cell xs → length xs ≡ n → 14 ≤ n → number_of xs % 16384 ≡ number_of (drop (n - 14) xs)
 low_part xs n h l k =
     let ys = take (n - 14) xs in
     let zs = drop (n - 14) xs in
@@ -37,14 +37,14 @@ unfolding bits
 opening-is = refl
 
 -- what the register shows at the place i, of the cells since s
-module _ (c : List ℕ) (h : All Cell c) (s i : ℕ) (le : s ≤ i) (in' : i ≤ length c) where
+module _ (c : List ℕ) (h : AllByRecursion Cell c) (s i : ℕ) (le : s ≤ i) (in' : i ≤ length c) where
   since : List ℕ
   since = take (i - s) (drop s c)
 
   length_since : length (take (i - s) (drop s c)) ≡ i - s
   length_since = length-take-le (i - s) (drop s c) (rw length-drop (omega arith))
 
-  binary : All Cell (take (i - s) (drop s c))
+  binary : AllByRecursion Cell (take (i - s) (drop s c))
   binary = All-take Cell (i - s) (drop s c) (All-drop Cell s c h)
 
   last_part : 14 ≤ i - s → drop (i - s - 14) (take (i - s) (drop s c)) ≡ take 14 (drop (i - 14) c)
@@ -74,7 +74,7 @@ module _ (c : List ℕ) (h : All Cell c) (s i : ℕ) (le : s ≤ i) (in' : i ≤
   shown k e = low_part (take (i - s) (drop s c)) (i - s) binary length_since k ∙ ap number_of (last_part k ∙ e)
 
 -- one cell more
-pub seen_more : (c : List ℕ) (s i v : ℕ) → All Cell c → s ≤ i → i < length c → v ≡ number_of (take (i - s) (drop s c)) % 16384 → v % 8192 * 2 + get_or c i 0 ≡ number_of (take (i + 1 - s) (drop s c)) % 16384
+pub seen_more : (c : List ℕ) (s i v : ℕ) → AllByRecursion Cell c → s ≤ i → i < length c → v ≡ number_of (take (i - s) (drop s c)) % 16384 → v % 8192 * 2 + get_or c i 0 ≡ number_of (take (i + 1 - s) (drop s c)) % 16384
 seen_more c s i v b le h e =
     let xs = take (i - s) (drop s c) in
     let d : get_or (drop s c) (i - s) 0 ≡ get_or c i 0 = get_or-drop s c (i - s) 0 ∙ ap (λ n. get_or c n 0) (omega arith) in

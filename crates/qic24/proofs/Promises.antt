@@ -1,6 +1,6 @@
 -- The format's promises, from what stands below.
 use Rattle.std.proofs.Common.{◌≡◌, ℕ, zero, suc, ◌<◌, ◌≤◌, ◌++◌, take, replicate, Ok, Result, sym, refl, ap, ◌∙◌, arith, lit<}
-use Rattle.std.specs.List.{AllByRecursion as All}
+use Rattle.std.specs.List.{AllByRecursion}
 use Rattle.std.proofs.lemmas.List.{take_at, take_all, length-replicate}
 use Rattle.qic24.specs.Copy.{Numbered, Proper, body, mark_counts}
 use Rattle.qic24.specs.Laws.{ReadsExactly, ReadsBack, SameCellsSameItem, MarkIsNoBlock}
@@ -25,7 +25,7 @@ same_cells-same_item t i j h p q e =
     take_self : (t : ℕ) (i : Numbered) → t < 256 → Proper i → take 5180 (body t i) ≡ body t i
     take_self t i h p = take_all 5180 (body t i) (omega (arith, exactly.length-body t i h p))
 
-all_FF : (n : ℕ) → All (λ b. b < 256) (replicate n 0xFF)
+all_FF : (n : ℕ) → AllByRecursion (λ b. b < 256) (replicate n 0xFF)
 all_FF zero = tt
 all_FF (suc n) = (lit< tt, all_FF n)
 

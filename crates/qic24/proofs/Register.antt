@@ -1,7 +1,7 @@
 -- The register is linear over XOR, so a byte can be fed to it by one look into a table.
 use Rattle.std.proofs.Common.{◌≡◌, ℕ, zero, suc, ◌*◌, ◌/◌, ◌%◌, ◌<◌, cond, eqb, List, [], ◌∷◌, ◌++◌, length, get_or, sym, refl, ap, ◌∙◌, add-zero, arith, lit<}
 use lib.Bits.{bit_and, bit_xor, and_mask, xor_assoc, xor_comm, xor_mod, xor_shr, xor_block, xor_shifted, xor_lt, xor_zero_r}
-use Rattle.std.specs.List.{AllByRecursion as All}
+use Rattle.std.specs.List.{AllByRecursion}
 use Rattle.std.proofs.lemmas.Bool.{cond_both}
 use Rattle.qic24.specs.Cells.{fold, bits}
 use Rattle.qic24.specs.Crc.{crc_step, bits_of, crc_from, crc, remainder}
@@ -74,7 +74,7 @@ step_splits r b h k =
     rw e (split_at (r / 32768) (r % 32768 * 2) b (omega arith) k)
 
 -- superposition: some bits into a register are the register moved up by as many, and the bits into a register of zeros
-pub fold_splits : (bs : List ℕ) (r : ℕ) → r < 65536 → All (λ b. b < 2) bs → fold crc_step r bs ≡ bit_xor (shifted_by (length bs) r) (fold crc_step 0 bs)
+pub fold_splits : (bs : List ℕ) (r : ℕ) → r < 65536 → AllByRecursion (λ b. b < 2) bs → fold crc_step r bs ≡ bit_xor (shifted_by (length bs) r) (fold crc_step 0 bs)
 fold_splits [] r h k = sym (xor_zero_r r)
 fold_splits (b ∷ bs) r h (k, ks) =
     let z : 0 < 65536 = lit< tt in
@@ -137,11 +137,11 @@ crc_from-append (x ∷ xs) ys r =
     crc_from-more r x (xs ++ ys) ∙ crc_from-append xs ys (crc_from r (x ∷ [])) ∙ ap (λ v. crc_from v ys) (sym (crc_from-more r x xs))
 
 -- the register stays one of 16 bits
-pub fold-below : (bs : List ℕ) (r : ℕ) → r < 65536 → All (λ b. b < 2) bs → fold crc_step r bs < 65536
+pub fold-below : (bs : List ℕ) (r : ℕ) → r < 65536 → AllByRecursion (λ b. b < 2) bs → fold crc_step r bs < 65536
 fold-below [] r h k = h
 fold-below (b ∷ bs) r h (k, ks) = fold-below bs (crc_step r b) (step_below r b h k) ks
 
-bits_of-binary : (bytes : List ℕ) → All (λ b. b < 2) (bits_of bytes)
+bits_of-binary : (bytes : List ℕ) → AllByRecursion (λ b. b < 2) (bits_of bytes)
 bits_of-binary [] = tt
 bits_of-binary (b ∷ bytes) = All-append (λ b. b < 2) (bits 8 b) (bits_of bytes) (bits-binary 8 b) (bits_of-binary bytes)
 

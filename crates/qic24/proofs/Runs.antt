@@ -1,6 +1,6 @@
 -- No nine ones in a row: nine cells in a row hold a whole nibble, and every nibble has a zero.
 use Rattle.std.proofs.Common.{◌≡◌, ℕ, zero, suc, ◌+◌, ◌-◌, ◌*◌, ◌/◌, ◌<◌, ◌≤◌, not, ◌&&◌, eqb, List, [], ◌∷◌, ◌++◌, length, get_or, take, drop, replicate, sym, refl, ap, ◌∙◌, ⊎_elim, le_of_suc-le-suc, not-suc-le-zero, arith, lit<}
-use Rattle.std.specs.List.{AllByRecursion as All}
+use Rattle.std.specs.List.{AllByRecursion}
 use Rattle.std.proofs.lemmas.List.{append_assoc, length-take, length-take-le, length-drop, take-append-drop, get_or_append_left, get_or-append_right, get_or-take, get_or-drop, get_or-replicate, ext_get_or}
 use Rattle.std.proofs.ByRecursion.{All-append, All-get_or, All-weaker}
 use Rattle.std.proofs.lemmas.Bool.{and_parts, not-true, eqb-false, cases_lt}
@@ -40,7 +40,7 @@ zeros e h =
     (eqb-false (number_of (take 5 (entry-cells e))) 31 (not-true (eqb (number_of (take 5 (entry-cells e))) 31) q.0), eqb-false (number_of (drop 5 (entry-cells e))) 31 (not-true (eqb (number_of (drop 5 (entry-cells e))) 31) q.1)))
     257 refl e h
 
-nibbles : (es : List ℕ) → All (λ e. e < 257) es → All Nibble (halves es)
+nibbles : (es : List ℕ) → AllByRecursion (λ e. e < 257) es → AllByRecursion Nibble (halves es)
 nibbles [] h = tt
 nibbles (e ∷ es) (h, hs) =
     let z = zeros e h in
@@ -48,14 +48,14 @@ nibbles (e ∷ es) (h, hs) =
     ((length-take-le 5 (entry-cells e) (omega arith), z.0), ((length-drop 5 (entry-cells e) ∙ omega arith, z.1), nibbles es hs))
 
 -- a cell of a nibble
-nibble_at : (hs : List (List ℕ)) → All Nibble hs → (m j : ℕ) → m < length hs → j < 5 → get_or (joined hs) (m * 5 + j) 0 ≡ get_or (get_or hs m []) j 0
+nibble_at : (hs : List (List ℕ)) → AllByRecursion Nibble hs → (m j : ℕ) → m < length hs → j < 5 → get_or (joined hs) (m * 5 + j) 0 ≡ get_or (get_or hs m []) j 0
 nibble_at [] a m j h k = absurd (not-suc-le-zero h)
 nibble_at (x ∷ hs) (a, more) zero j h k = ap (λ n. get_or (x ++ joined hs) n 0) (omega arith) ∙ get_or_append_left x (joined hs) 0 j (omega (arith, a.0))
 nibble_at (x ∷ hs) (a, more) (suc m) j h k =
     get_or-append_right x (joined hs) 5 (suc m * 5 + j) 0 a.0 (omega arith) ∙ ap (λ n. get_or (joined hs) n 0) (omega arith) ∙ nibble_at hs more m j (le_of_suc-le-suc h) k
 
 -- the three ones of the marker, then nibbles
-no_nine : (hs : List (List ℕ)) → All Nibble hs → length (joined hs) ≡ length hs * 5 → (k : ℕ) → k + 9 ≤ 3 + length (joined hs) → ((j : ℕ) → j < 9 → get_or (1 ∷ 1 ∷ 1 ∷ joined hs) (k + j) 0 ≡ 1) → ⊥
+no_nine : (hs : List (List ℕ)) → AllByRecursion Nibble hs → length (joined hs) ≡ length hs * 5 → (k : ℕ) → k + 9 ≤ 3 + length (joined hs) → ((j : ℕ) → j < 9 → get_or (1 ∷ 1 ∷ 1 ∷ joined hs) (k + j) 0 ≡ 1) → ⊥
 no_nine hs a l k h one =
     let m = (k + 1) / 5 in
     let lm : m < length hs = omega arith in
@@ -74,7 +74,7 @@ no_nine hs a l k h one =
     ones-at j q = get_or-replicate 5 j 1 0 q
 
 -- the entries of a body are bytes or mark bytes
-entries_small : (t : ℕ) (i : Numbered) → t < 256 → Proper i → All (λ e. e < 257) (entries t i)
+entries_small : (t : ℕ) (i : Numbered) → t < 256 → Proper i → AllByRecursion (λ e. e < 257) (entries t i)
 entries_small t i h p = All-append (λ e. e < 257) (data_entries i.content) (tail_bytes t i) (data_small i.content p.content) (All-weaker (λ e. e < 256) (λ e. e < 257) (λ e q. omega arith) (tail_bytes t i) (tail_small t i h p.most))
 
 no_nine_in_body : (t : ℕ) (i : Numbered) → t < 256 → Proper i → (k : ℕ) → k + 9 ≤ 5183 → ((j : ℕ) → j < 9 → get_or (1 ∷ 1 ∷ 1 ∷ body t i) (k + j) 0 ≡ 1) → ⊥

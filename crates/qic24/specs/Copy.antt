@@ -1,6 +1,6 @@
 -- The recorded copy of an item: preamble, marker, data, address, CRC and postamble.
 use Rattle.std.specs.Prelude.{◌≡◌, ℕ, ◌/◌, ◌%◌, ◌<◌, ◌≤◌, cond, ◌&&◌, List, [], ◌∷◌, ◌++◌, map, length, replicate, Some, None, Option, nat_le}
-use Rattle.std.specs.List.{AllByRecursion as All}
+use Rattle.std.specs.List.{AllByRecursion}
 use Rattle.qic24.specs.Cells.{joined, byte_cells, mark_cells}
 use Rattle.qic24.specs.Crc.{crc}
 use Rattle.qic24.specs.declared.item.Content.{Content}
@@ -16,7 +16,7 @@ pub record Numbered : Type 0 where
 
 -- 512 bytes, or a mark
 abbrev pub ProperContent : Content → Type 0
-ProperContent (Block bs) = (length bs ≡ 512) × All (λ b. b < 256) bs
+ProperContent (Block bs) = (length bs ≡ 512) × AllByRecursion (λ b. b < 256) bs
 ProperContent Mark = Unit {0}
 
 -- what can be recorded: proper content under a number from 1 to 1,048,575

@@ -1,6 +1,6 @@
 -- What the format promises, in its own words.
 use Rattle.std.specs.Prelude.{◌≡◌, ℕ, ◌+◌, ◌<◌, ◌≤◌, ◌↔◌, List, ◌∷◌, ◌++◌, take, drop, replicate, Ok, ◌≢◌}
-use Rattle.std.specs.List.{AllByRecursion as All}
+use Rattle.std.specs.List.{AllByRecursion}
 use Rattle.qic24.specs.Cells.{Cell}
 use Rattle.qic24.specs.Copy.{Numbered, Proper, body, item_crc, mark_counts}
 use Rattle.qic24.specs.Decode.{decoded}
@@ -9,7 +9,7 @@ use Rattle.qic24.specs.declared.item.Content.TheVariants.{Block, Mark}
 
 -- cells are read as an item exactly when the item is a proper one and they begin with its cells
 abbrev pub ReadsExactly : Type 0
-ReadsExactly = (t : ℕ) (c : List ℕ) (i : Numbered) → t < 256 → All Cell c → (decoded t c ≡ Ok i) ↔ (Proper i × (take 5180 c ≡ body t i))
+ReadsExactly = (t : ℕ) (c : List ℕ) (i : Numbered) → t < 256 → AllByRecursion Cell c → (decoded t c ≡ Ok i) ↔ (Proper i × (take 5180 c ≡ body t i))
 
 -- cells decode to what was encoded, whatever follows them
 abbrev pub ReadsBack : Type 0

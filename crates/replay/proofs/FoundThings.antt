@@ -1,6 +1,6 @@
 -- Next finds what stands on the tape from its cursor on.
 use Rattle.std.proofs.Common.{◌≡◌, ℕ, suc, ◌<◌, ◌≤◌, Bool, true, false, eqb, ltb, ◌⊎◌, List, [], ◌∷◌, ◌++◌, Some, None, Ok, Err, Option, Result, sym, refl, ap, ◌∙◌, subst, inl, inr, ⊎_elim, append_assoc, arith, MatchOption}
-use Rattle.std.specs.List.{AllByRecursion as All}
+use Rattle.std.specs.List.{AllByRecursion}
 use Rattle.std.proofs.lemmas.Bool.{cond_both, ltb-true, ltb-false, eqb-true, eqb-false, false≢true}
 use Rattle.qic24.specs.Copy.{Numbered}
 use Rattle.qic24.specs.declared.fault.CopyFault.{CopyFault}
@@ -44,10 +44,10 @@ record ItemAmong (n : ℕ) (os : List OpeningAt) (f : CopyAt) : Type 0 where
   rest : List OpeningAt
   is : os ≡ before ++ (opening_of f.place (Ok f.item) ∷ rest)
   number : f.item.number ≡ n
-  passes : All (λ o. Passes n o.reads) before
+  passes : AllByRecursion (λ o. Passes n o.reads) before
 
 record EndAmong (n : ℕ) (b : Bool) (os : List OpeningAt) (r : Bool) : Type 0 where
-  passes : All (λ o. Passes n o.reads) os
+  passes : AllByRecursion (λ o. Passes n o.reads) os
   seen : r ≡ true → (b ≡ true) ⊎ ((o : OpeningAt) × In o os × HoldsNext n o.reads)
   from_before : b ≡ true → r ≡ true
   from_one : (o : OpeningAt) → In o os → HoldsNext n o.reads → r ≡ true
@@ -58,7 +58,7 @@ record BeyondAmong (n : ℕ) (u : Option UnsoundOpening) (os : List OpeningAt) (
   item : Numbered
   is : os ≡ before ++ (opening_of w.found (Ok item) ∷ rest)
   beyond : suc n < item.number
-  passes : All (λ o. Passes n o.reads) before
+  passes : AllByRecursion (λ o. Passes n o.reads) before
   expected : w.expected ≡ n
   unsound : w.unsound ≡ last-unsound u before
 
@@ -110,7 +110,7 @@ seek_among n b u (o ∷ os) = go o.reads (λ c v. seek_among n c v os)
         past : n ≤ i.number → (i.number ≡ n → ⊥) → (i.number ≡ suc n → ⊥) → suc n < i.number
         past a d f = grind arith
 
-all_in : {A : Type 0} (P : A → Type 0) (x : A) (xs : List A) → All P xs → In x xs → P x
+all_in : {A : Type 0} (P : A → Type 0) (x : A) (xs : List A) → AllByRecursion P xs → In x xs → P x
 all_in P x [] a i = elim i [ ]
 all_in P x (y ∷ xs) a i = split x y xs i (λ q. subst P (sym q) a.0) (λ j. all_in P x xs a.1 j)
 
@@ -147,14 +147,14 @@ record LastOf (u : Option UnsoundOpening) (os : List OpeningAt) (v : UnsoundOpen
   before : List OpeningAt
   rest : List OpeningAt
   is : os ≡ before ++ (opening_of v.place (Err v.cause) ∷ rest)
-  sound : All (λ o. IsSound o.reads) rest
+  sound : AllByRecursion (λ o. IsSound o.reads) rest
 
-last_of : (u : Option UnsoundOpening) (os : List OpeningAt) → ((last-unsound u os ≡ u) × All (λ o. IsSound o.reads) os) ⊎ ((v : UnsoundOpening) × (last-unsound u os ≡ Some v) × LastOf u os v)
+last_of : (u : Option UnsoundOpening) (os : List OpeningAt) → ((last-unsound u os ≡ u) × AllByRecursion (λ o. IsSound o.reads) os) ⊎ ((v : UnsoundOpening) × (last-unsound u os ≡ Some v) × LastOf u os v)
 last_of u [] = inl (refl, tt)
 last_of u (o ∷ os) = go o.reads (λ v. last_of v os)
   where
-    go : (x : Result Numbered CopyFault) → ((v : Option UnsoundOpening) → ((last-unsound v os ≡ v) × All (λ o. IsSound o.reads) os) ⊎ ((w : UnsoundOpening) × (last-unsound v os ≡ Some w) × LastOf v os w)) →
-        ((last-unsound u (opening_of o.place x ∷ os) ≡ u) × All (λ o. IsSound o.reads) (opening_of o.place x ∷ os)) ⊎ ((w : UnsoundOpening) × (last-unsound u (opening_of o.place x ∷ os) ≡ Some w) × LastOf u (opening_of o.place x ∷ os) w)
+    go : (x : Result Numbered CopyFault) → ((v : Option UnsoundOpening) → ((last-unsound v os ≡ v) × AllByRecursion (λ o. IsSound o.reads) os) ⊎ ((w : UnsoundOpening) × (last-unsound v os ≡ Some w) × LastOf v os w)) →
+        ((last-unsound u (opening_of o.place x ∷ os) ≡ u) × AllByRecursion (λ o. IsSound o.reads) (opening_of o.place x ∷ os)) ⊎ ((w : UnsoundOpening) × (last-unsound u (opening_of o.place x ∷ os) ≡ Some w) × LastOf u (opening_of o.place x ∷ os) w)
     go (Ok i) ih = elim (ih u) [
       | inl a ↦ inl (a.0, (tt, a.1))
       | inr a ↦ inr (a.0, a.1, record { before = opening_of o.place (Ok i) ∷ a.2.before; rest = a.2.rest; is = ap (λ (zs : List OpeningAt). opening_of o.place (Ok i) ∷ zs) a.2.is; sound = a.2.sound })
@@ -183,7 +183,7 @@ module _ (c : Tape) (h : OfCartridge c) (p : TapePlace) where
   unsound-all v w l = subst (λ (x : Result Numbered CopyFault). In (opening_of v.place x) (openings_from c p)) w.cause (listed-all c p v.place.on v.place.at w.opens l)
 
   -- what was passed over before an opening of the tape
-  passed-before : (n : ℕ) (before : List OpeningAt) (o : OpeningAt) (rest : List OpeningAt) → openings_from c p ≡ before ++ (o ∷ rest) → All (λ x. Passes n x.reads) before → PassedBetween c n p o.place
+  passed-before : (n : ℕ) (before : List OpeningAt) (o : OpeningAt) (rest : List OpeningAt) → openings_from c p ≡ before ++ (o ∷ rest) → AllByRecursion (λ x. Passes n x.reads) before → PassedBetween c n p o.place
   passed-before n before o rest is a g s l b =
       all_in (λ x. Passes n x.reads) (opening_of g.place (Ok g.item)) before a (in_before (openings_from c p) before o rest is (listed-ordered c p) (opening_of g.place (Ok g.item)) (read_all c h p g s l) b)
 
@@ -191,7 +191,7 @@ module _ (c : Tape) (h : OfCartridge c) (p : TapePlace) where
   unsound-before : (before : List OpeningAt) (o : OpeningAt) (rest : List OpeningAt) → openings_from c p ≡ before ++ (o ∷ rest) → MatchOption (last-unsound None before) (NoneUnsound c p o.place) (λ v. LastUnsound c p o.place v)
   unsound-before before o rest is = elim (last_of None before) [ inl a ↦ none a.0 a.1 | inr a ↦ some a.0 a.1 a.2 ]
     where
-      none : last-unsound None before ≡ None → All (λ x. IsSound x.reads) before → MatchOption (last-unsound None before) (NoneUnsound c p o.place) (λ v. LastUnsound c p o.place v)
+      none : last-unsound None before ≡ None → AllByRecursion (λ x. IsSound x.reads) before → MatchOption (last-unsound None before) (NoneUnsound c p o.place) (λ v. LastUnsound c p o.place v)
       none e a =
           subst (λ (u : Option UnsoundOpening). MatchOption u (NoneUnsound c p o.place) (λ v. LastUnsound c p o.place v)) (sym e)
           (λ v w l b. all_in (λ x. IsSound x.reads) (opening_of v.place (Err v.cause)) before a (in_before (openings_from c p) before o rest is (listed-ordered c p) (opening_of v.place (Err v.cause)) (unsound-all v w l) b))

@@ -1,7 +1,7 @@
 -- A tape that grows keeps what stands on it.
 use Rattle.std.proofs.Common.{◌≡◌, ℕ, ◌+◌, ◌-◌, ◌≤◌, ◌↔◌, List, [], ◌∷◌, ◌++◌, length, take, drop, sym, refl, ap, ◌∙◌, subst, inl, inr, append_assoc, append-nil, arith, length-append, length-drop}
 use lib.Seq.{take-append-le, drop-append-le}
-use Rattle.std.specs.List.{AllByRecursion as All}
+use Rattle.std.specs.List.{AllByRecursion}
 use Rattle.std.proofs.lemmas.Bool.{cases_eq}
 use Rattle.std.proofs.ByRecursion.{All-take}
 use Rattle.std.proofs.lemmas.List.{take_at}
@@ -40,7 +40,7 @@ grown_extends (r ∷ rs) a b (m, l, g) = extends_trans a m b (longer_extends r a
 pub of_cartridge_before : (a b : Tape) → Extends a b → OfCartridge b → OfCartridge a
 of_cartridge_before a b e h = record {
   few = omega (arith, h.few, e.tracks);
-  binary = λ t. subst (All Cell) (take_at (track a t) (e.added t) (length (track a t)) refl) (All-take Cell (length (track a t)) (track a t ++ e.added t) (subst (All Cell) (e.is t) (h.binary t)));
+  binary = λ t. subst (AllByRecursion Cell) (take_at (track a t) (e.added t) (length (track a t)) refl) (All-take Cell (length (track a t)) (track a t ++ e.added t) (subst (AllByRecursion Cell) (e.is t) (h.binary t)));
 }
 
 pub extends_length : (a b : Tape) (t : ℕ) → Extends a b → length (track a t) ≤ length (track b t)

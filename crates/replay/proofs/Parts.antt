@@ -1,6 +1,6 @@
 -- What a part of a track, read from a cartridge, tells of the track.
 use Rattle.std.proofs.Common.{◌≡◌, ℕ, zero, suc, ◌+◌, ◌-◌, ◌*◌, ◌<◌, ◌≤◌, min, cond, ltb, leb, List, [], ◌∷◌, map, length, take, drop, Ok, Err, Result, sym, refl, ap, ◌∙◌, ⊎_elim, arith, length-drop, length-take}
-use Rattle.std.specs.List.{AllByRecursion as All}
+use Rattle.std.specs.List.{AllByRecursion}
 use Rattle.std.proofs.ByRecursion.{All-take, All-drop}
 use Rattle.std.proofs.lemmas.List.{get_or_past, take_all, take-take, drop-take, drop-drop}
 use Rattle.std.proofs.lemmas.Bool.{cases_lt, cond-true, cond-false, lt-ltb, le-ltb, le-leb}
@@ -39,13 +39,13 @@ read-refused c t p n e q l = ⊎_elim
     (cases_lt t (length c))
 
 -- a cell is read as itself
-pub map-cell : (xs : List ℕ) → All Cell xs → map cell xs ≡ xs
+pub map-cell : (xs : List ℕ) → AllByRecursion Cell xs → map cell xs ≡ xs
 map-cell [] h = refl
 map-cell (zero ∷ xs) h = ap (λ (z : List ℕ). 0 ∷ z) (map-cell xs h.1)
 map-cell (suc zero ∷ xs) h = ap (λ (z : List ℕ). 1 ∷ z) (map-cell xs h.1)
 map-cell (suc (suc x) ∷ xs) h = absurd (omega (arith, h.0))
 
-pub part_cells : (n p : ℕ) (c : List ℕ) → All Cell c → map cell (take n (drop p c)) ≡ take n (drop p c)
+pub part_cells : (n p : ℕ) (c : List ℕ) → AllByRecursion Cell c → map cell (take n (drop p c)) ≡ take n (drop p c)
 part_cells n p c h = map-cell (take n (drop p c)) (All-take Cell n (drop p c) (All-drop Cell p c h))
 
 -- the fourteen cells before the place q of the n cells from s on
@@ -92,6 +92,6 @@ decoded_part t n p c e = ⊎_elim
     (cases_lt (length c - p) 5180)
 
 -- what the cells that were read are decoded as
-pub read-decoded : (t n p : ℕ) (c bs : List ℕ) → All Cell c → n ≡ min 5180 (length c - p) → take n bs ≡ take n (drop p c) → decoded t (map cell (take n bs)) ≡ read_here t c p
+pub read-decoded : (t n p : ℕ) (c bs : List ℕ) → AllByRecursion Cell c → n ≡ min 5180 (length c - p) → take n bs ≡ take n (drop p c) → decoded t (map cell (take n bs)) ≡ read_here t c p
 unfolding read_here
 read-decoded t n p c bs h e q = ap (λ (z : List ℕ). decoded t (map cell z)) q ∙ (ap (decoded t) (part_cells n p c h) ∙ decoded_part t n p c e)

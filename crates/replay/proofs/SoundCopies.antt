@@ -1,6 +1,6 @@
 -- Reading lists exactly the sound copies of a tape, and judges each rightly.
 use Rattle.std.proofs.Common.{◌≡◌, ℕ, ◌+◌, ◌<◌, ◌≤◌, true, eqb, List, [], ◌∷◌, ◌++◌, length, drop, Ok, Err, Decides, Result, sym, refl, ap, ◌∙◌, subst, inl, inr, ⊎_elim, arith}
-use Rattle.std.specs.List.{AllByRecursion as All}
+use Rattle.std.specs.List.{AllByRecursion}
 use Rattle.std.proofs.lemmas.Slice.Eq.{bytes_eq-Decides}
 use Rattle.std.proofs.ByRecursion.{All-drop}
 use Rattle.std.proofs.lemmas.Bool.{cases_lt, cases_eq, cases_order, false≢true, and_parts, and_from}
@@ -38,11 +38,11 @@ read_as_decides i (Ok j) = (λ e. ap Ok ((same_item_decides j i).0 e), λ e. (sa
 read_as_decides i (Err f) = (λ e. absurd (false≢true e), λ e. let z : ◌≡◌ {A = ℕ} 0 1 = cc in absurd (omega arith))
 
 -- on a track below 256 an opening before cells that are read as an item is a sound copy of it
-pub sound-read : (t : ℕ) (c : List ℕ) (p : ℕ) (i : Numbered) → t < 256 → All Cell c → Opens c p → read_here t c p ≡ Ok i → SoundAt t c p i
+pub sound-read : (t : ℕ) (c : List ℕ) (p : ℕ) (i : Numbered) → t < 256 → AllByRecursion Cell c → Opens c p → read_here t c p ≡ Ok i → SoundAt t c p i
 unfolding read_here
 sound-read t c p i h b o e = let r = (reads_exactly t (drop p c) i h (All-drop Cell p c b)).0 e in record { opens = o; proper = r.0; reads = r.1 }
 
-pub read-sound : (t : ℕ) (c : List ℕ) (p : ℕ) (i : Numbered) → t < 256 → All Cell c → SoundAt t c p i → read_here t c p ≡ Ok i
+pub read-sound : (t : ℕ) (c : List ℕ) (p : ℕ) (i : Numbered) → t < 256 → AllByRecursion Cell c → SoundAt t c p i → read_here t c p ≡ Ok i
 unfolding read_here
 read-sound t c p i h b s = (reads_exactly t (drop p c) i h (All-drop Cell p c b)).1 (s.proper, s.reads)
 

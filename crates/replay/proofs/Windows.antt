@@ -1,6 +1,6 @@
 -- Looking for openings in one part of a track after the other.
 use Rattle.std.proofs.Common.{◌≡◌, ℕ, ◌+◌, ◌-◌, ◌<◌, ◌≤◌, min, List, map, length, take, drop, is_some, Some, None, Option, sym, ap, ◌∙◌, subst, ⊎_elim, arith, length-take, MatchOption}
-use Rattle.std.specs.List.{AllByRecursion as All}
+use Rattle.std.specs.List.{AllByRecursion}
 use Rattle.std.proofs.lemmas.Bool.{cases_lt}
 use Rattle.qic24.specs.Opening.{Opens, NoneBetween, FirstOpening}
 use Rattle.qic24.proofs.Openings.{opens_within}
@@ -14,7 +14,7 @@ abbrev pub PartOpening : List ℕ → ℕ → ℕ → Option ℕ → Type 0
 PartOpening c s n r = MatchOption r ((q : ℕ) → 14 ≤ q → q ≤ n → Opens c (s + q) → ⊥) (λ q. (14 ≤ q) × (q ≤ n) × Opens c (s + q) × ((k : ℕ) → 14 ≤ k → k < q → Opens c (s + k) → ⊥))
 
 -- what a search in the cells that were read tells
-pub found_in_part : (c bs : List ℕ) (s n : ℕ) (r : Option ℕ) → All Cell c → take n bs ≡ take n (drop s c) → FirstOpening (map cell (take n bs)) 0 r → PartOpening c s n r
+pub found_in_part : (c bs : List ℕ) (s n : ℕ) (r : Option ℕ) → AllByRecursion Cell c → take n bs ≡ take n (drop s c) → FirstOpening (map cell (take n bs)) 0 r → PartOpening c s n r
 found_in_part c bs s n r h e f = go r (subst (λ (z : List ℕ). FirstOpening z 0 r) (ap (map cell) e ∙ part_cells n s c h) f)
   where
     go : (r : Option ℕ) → FirstOpening (take n (drop s c)) 0 r → PartOpening c s n r

@@ -1,6 +1,6 @@
 -- Copies on a tape: where they stand, which of them are sound, and their order.
 use Rattle.std.specs.Prelude.{◌≡◌, ℕ, ◌+◌, ◌<◌, ◌≤◌, ◌⊎◌, List, [], ◌∷◌, length}
-use Rattle.std.specs.List.{AllByRecursion as All}
+use Rattle.std.specs.List.{AllByRecursion}
 use Rattle.qic24.specs.Copy.{Numbered}
 -- how many cells a copy has after its opening: data, address and CRC
 pub use Rattle.qic24.specs.Measures.{body_cells}
@@ -12,7 +12,7 @@ pub use Rattle.replay.specs.declared.place.TapePlace.{TapePlace}
 -- cells as every cartridge has them: at most nine tracks, and each cell a zero or a one
 pub record OfCartridge (c : Tape) : Type 0 where
   pub few : length c ≤ 9
-  pub binary : (t : ℕ) → All Cell (track c t)
+  pub binary : (t : ℕ) → AllByRecursion Cell (track c t)
 
 abbrev pub place_on : ℕ → ℕ → TapePlace
 place_on t p = record { on = t; at = p }

@@ -1,6 +1,6 @@
 -- A run over a whole script joins to the script, and no other run does.
 use Rattle.std.proofs.Common.{◌≡◌, ℕ, zero, suc, ◌<◌, ◌≤◌, List, [], ◌∷◌, ◌++◌, length, take, drop, Some, None, Option, sym, refl, ap, ◌∙◌, subst, arith}
-use Rattle.std.specs.List.{AllByRecursion as All}
+use Rattle.std.specs.List.{AllByRecursion}
 use Rattle.std.proofs.lemmas.List.{append_assoc, append-nil, length-append, take_at, drop_at, take-append-drop, nil_from_length}
 use Rattle.std.proofs.ByRecursion.{All-drop}
 use Rattle.script.specs.declared.refusal.Refusal.{Refusal}
@@ -13,7 +13,7 @@ use Rattle.script.proofs.Exact.{stands, only}
 
 -- the script is the run's instructions and a tail that ends it
 pub record Splits (s : List ℕ) (r : Readout) : Type 0 where
-  pub proper : All Proper r.handed
+  pub proper : AllByRecursion Proper r.handed
   pub tail : List ℕ
   pub is : s ≡ script_of r.handed ++ tail
   pub ends : Ends tail r.refusal

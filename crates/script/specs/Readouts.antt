@@ -1,6 +1,6 @@
 -- A readout: what a reader hands out of a whole script, from the first byte on, and what ends it.
 use Rattle.std.specs.Prelude.{◌≡◌, ℕ, zero, suc, List, [], ◌∷◌, length, take, drop, Some, None, Option}
-use Rattle.std.specs.List.{AllByRecursion as All}
+use Rattle.std.specs.List.{AllByRecursion}
 use Rattle.script.specs.declared.refusal.Refusal.{Refusal}
 use Rattle.script.specs.declared.inspection.Inspection.{Inspection}
 use Rattle.script.specs.Instructions.{Instruction, Bytes, Proper, written, script_of}
@@ -48,13 +48,13 @@ Ends bytes (Some e) = RefusedAt bytes e
 
 -- the instructions of a readout, written one after the other, are the script up to where it ended
 pub record Joins (script : List ℕ) (r : Readout) : Type 0 where
-  pub proper : All Proper r.handed
+  pub proper : AllByRecursion Proper r.handed
   pub joined : script_of r.handed ≡ take (reached r) script
   pub ends : Ends (drop (reached r) script) r.refusal
 
 -- Any instructions that are written are read back, whole and in order, and then the script ends.
 abbrev pub WrittenThenRead : Type 0
-WrittenThenRead = (is : List Instruction) → All Proper is → read_out (script_of is) ≡ record { handed = is; refusal = None }
+WrittenThenRead = (is : List Instruction) → AllByRecursion Proper is → read_out (script_of is) ≡ record { handed = is; refusal = None }
 
 -- Whatever bytes are read, the instructions handed out join to the script again, up to its end or to the refusal; and those of no other readout do.
 abbrev pub ReadThenWritten : Type 0

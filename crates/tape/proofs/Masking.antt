@@ -1,6 +1,6 @@
 -- The parts of a run that a sheet has sent on so far.
 use Rattle.std.proofs.Common.{◌≡◌, ℕ, ◌+◌, ◌<◌, ◌≤◌, List, [], ◌∷◌, ◌++◌, map, length, take, drop, sym, refl, ap, ◌∙◌, append_assoc, append-nil, arith, length-append, take-add}
-use Rattle.std.specs.List.{flat_map, AllByRecursion as All}
+use Rattle.std.specs.List.{flat_map, AllByRecursion}
 use Rattle.std.proofs.ByRecursion.{All-push}
 use Rattle.std.proofs.lemmas.List.{length-map, length-take-le, map-append, take_all}
 use Rattle.tape.specs.Tape.{Tape, track, cell, Run, run, Longer, Sends}
@@ -13,7 +13,7 @@ use Rattle.tape.specs.Sendings.{sends_one, sends_keep, sends_add}
 -- the first `done` of the cells for the track t from the place p on, sent on from the medium s to the medium e
 pub record SoFar {S : Type 0} (takes : S → Run → S → Type 0) (fs : List Flaw) (t p : ℕ) (sent : List ℕ) (s : S) (done : ℕ) (e : S) : Type 0 where
   pub runs : List Run
-  pub track : All (λ q. q.on ≡ t) runs
+  pub track : AllByRecursion (λ q. q.on ≡ t) runs
   pub cells : flat_map (λ q. q.sent) runs ≡ masked fs t p (map cell (take done sent))
   pub sends : Sends takes s runs e
 

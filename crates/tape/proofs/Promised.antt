@@ -1,6 +1,6 @@
 -- The promises on stores and sheets.
 use Rattle.std.proofs.Common.{◌≡◌, ℕ, ◌+◌, ◌-◌, ◌<◌, false, cond, eqb, List, [], ◌∷◌, ◌++◌, length, get_or, take, drop, sym, refl, ap, ◌∙◌, subst, inl, inr, append_assoc, append-nil, arith, drop-drop, take-add, drop_at}
-use Rattle.std.specs.List.{flat_map, AllByRecursion as All}
+use Rattle.std.specs.List.{flat_map, AllByRecursion}
 use Rattle.std.proofs.lemmas.List.{get_or-append_right}
 use Rattle.std.proofs.lemmas.Bool.{cases_eq, eq-eqb, ne_eqb, cond-true, cond-false}
 use Rattle.tape.specs.Tape.{Tape, track, Run, Longer, Sends}
@@ -39,7 +39,7 @@ module _ {S : Type 0} (tape : S → Tape) (takes : S → Run → S → Type 0) (
       reads-are (track (tape e) t) (length (track (tape s) t)) ns
       ∙ ap (take (total ns)) (ap (drop (length (track (tape s) t))) (track-after rs s e t h) ∙ drop_at (track (tape s) t) (sent_to t rs) (length (track (tape s) t)) refl)
 
-  sent-there : (t : ℕ) (rs : List Run) → All (λ q. q.on ≡ t) rs → sent_to t rs ≡ flat_map (λ q. q.sent) rs
+  sent-there : (t : ℕ) (rs : List Run) → AllByRecursion (λ q. q.on ≡ t) rs → sent_to t rs ≡ flat_map (λ q. q.sent) rs
   sent-there t [] h = refl
   sent-there t (r ∷ rs) (h, hs) =
       ap (λ (x : List ℕ). x ++ sent_to t rs) (cond-true (eqb r.on t) r.sent [] (eq-eqb r.on t h)) ∙ ap (λ (x : List ℕ). r.sent ++ x) (sent-there t rs hs)

@@ -1,6 +1,6 @@
 -- Tapes that are given track by track, and tapes on which a run was added as it was sent.
 use Rattle.std.proofs.Common.{◌≡◌, ℕ, zero, suc, ◌+◌, ◌<◌, ◌≤◌, List, [], ◌∷◌, ◌++◌, map, length, get_or, set, sym, refl, ap, ◌∙◌, subst, inl, inr, zero-add, arith, length-set}
-use Rattle.std.specs.List.{range_with_len, AllByRecursion as All}
+use Rattle.std.specs.List.{range_with_len, AllByRecursion}
 use Rattle.std.proofs.lemmas.List.{get_or_past, get_or-set_same, get_or-set_other, same_lists}
 use Rattle.std.proofs.lemmas.Bool.{cases_eq, cases_lt}
 use Rattle.std.proofs.lemmas.List.FromFn.{length-map-range_with_len, get_or-map-range_with_len}
@@ -56,7 +56,7 @@ unspoiled_longer r a b u = record {
 }
 
 -- cells stand for themselves
-pub cells_are : (xs : List ℕ) → All Cell xs → map cell xs ≡ xs
+pub cells_are : (xs : List ℕ) → AllByRecursion Cell xs → map cell xs ≡ xs
 cells_are [] h = refl
 cells_are (x ∷ xs) (h, hs) = ap (λ (c : ℕ). c ∷ map cell xs) (one x h) ∙ ap (λ (r : List ℕ). x ∷ r) (cells_are xs hs)
   where

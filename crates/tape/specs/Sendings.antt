@@ -1,7 +1,7 @@
 -- Runs that a medium takes one after the other.
 use Rattle.std.specs.Prelude.{◌≡◌, ℕ, ◌+◌, List, [], ◌∷◌, ◌++◌, length, ◌≢◌, refl}
 use Rattle.std.proofs.Common.{sym, ap, subst, ◌∙◌, append_assoc, append-nil, arith, length-append}
-use Rattle.std.specs.List.{flat_map, AllByRecursion as All}
+use Rattle.std.specs.List.{flat_map, AllByRecursion}
 use Rattle.tape.specs.Tape.{Tape, track, Run, Longer, Sends, Grown}
 use Rattle.tape.specs.Sheets.{Passes}
 use Rattle.tape.specs.declared.flaw.Flaw.{Flaw}
@@ -44,7 +44,7 @@ added_more t m n r a b c e l f g = record {
 }
 
 pub sends_add : {S : Type 0} (cells : S → Tape) (takes : S → Run → S → Type 0) → ((s : S) (r : Run) (e : S) → takes s r e → Longer r (cells s) (cells e))
-    → (t : ℕ) (rs : List Run) (s e : S) → All (λ q. q.on ≡ t) rs → Sends takes s rs e → Added t (length (flat_map (λ q. q.sent) rs)) (cells s) (cells e)
+    → (t : ℕ) (rs : List Run) (s e : S) → AllByRecursion (λ q. q.on ≡ t) rs → Sends takes s rs e → Added t (length (flat_map (λ q. q.sent) rs)) (cells s) (cells e)
 sends_add cells takes grows t [] s e h k = subst (λ z. Added t 0 (cells s) (cells z)) (sym k) (added_none t (cells s))
 sends_add cells takes grows t (r ∷ rs) s e (h, hs) (m, a, b) =
     subst (λ (n : ℕ). Added t n (cells s) (cells e)) (sym (length-append r.sent (flat_map (λ q. q.sent) rs)))

@@ -1,6 +1,6 @@
 -- A flaw sheet over a cartridge: what it sends on.
 use Rattle.std.specs.Prelude.{◌≡◌, ℕ, ◌<◌, List, [], ◌∷◌, length}
-use Rattle.std.specs.List.{flat_map, AllByRecursion as All}
+use Rattle.std.specs.List.{flat_map, AllByRecursion}
 use Rattle.tape.specs.Tape.{Tape, track, Run, Sends}
 use Rattle.tape.specs.Flaws.{masked, Clean}
 use Rattle.tape.specs.FlawTables.{table_flaws}
@@ -14,7 +14,7 @@ sheet_flaws s = table_flaws s.table
 -- runs that stand for the run r from the place p of its track on: on the same track its cells, in any division,
 -- with a zero wherever one is under a flaw. Where none is, the run as it is
 pub record Divided (fs : List Flaw) (p : ℕ) (r : Run) (rs : List Run) : Type 0 where
-  pub on_track : All (λ q. q.on ≡ r.on) rs
+  pub on_track : AllByRecursion (λ q. q.on ≡ r.on) rs
   pub together : flat_map (λ q. q.sent) rs ≡ masked fs r.on p r.sent
   pub whole : Clean fs r.on p (length r.sent) → rs ≡ r ∷ []
 

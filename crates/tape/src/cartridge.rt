@@ -1,6 +1,6 @@
 // What a cartridge is: a half that can only be read, and one on top of it that can also be recorded.
 ghost use Rattle.std.specs.Prelude.{◌≡◌, ℕ, ◌≤◌, List, map, length, take, drop, MatchResult};
-ghost use Rattle.std.specs.List.{AllByRecursion as All};
+ghost use Rattle.std.specs.List.{AllByRecursion};
 ghost use Rattle.tape.specs.Calls.{length_answer, read_answer, append_answer};
 ghost use Rattle.tape.specs.Tape.{Tape, most_tracks, most_cells, track, Cell, cell, Run, run, Longer};
 
@@ -36,7 +36,7 @@ pub trait Reading {
 
     ghost inside: { (s : Self) (t : ℕ) → length (track (cells s) t) ≤ room s };
 
-    ghost binary: { (s : Self) (t : ℕ) → All Cell (track (cells s) t) };
+    ghost binary: { (s : Self) (t : ℕ) → AllByRecursion Cell (track (cells s) t) };
 
     ghost grows: { (s : Self) (r : Run) (e : Self) → takes s r e → Longer r (cells s) (cells e) };
 

@@ -1,6 +1,6 @@
 use Rattle.std.proofs.Common.{◌≡◌, ℕ, ◌+◌, ◌-◌, ◌<◌, ◌≤◌, List, ◌++◌, map, length, get_or, take, drop, Ok, Err, sym, ap, ◌∙◌, subst, arith, length-append, length-drop}
 use borrow.Rule.Slice.PartMut.{put_mid}
-use Rattle.std.specs.List.{AllByRecursion as All}
+use Rattle.std.specs.List.{AllByRecursion}
 use Rattle.std.proofs.ByRecursion.{All-append, All-get_or}
 use Rattle.std.proofs.lemmas.List.{length-map, length-take-le, get_or-take}
 use Rattle.std.proofs.lemmas.Slice.{take-put_mid}
@@ -38,7 +38,7 @@ module _ (s : OddTape) (sent out : List ℕ) (is : out ≡ thinned s.passed (map
 
   filled_binary : (i : ℕ) → i < s.used + length sent → get_or filled i 0 < 2
   filled_binary i h =
-      let all : All Cell (take (s.used + length sent) filled) = subst (All Cell) (sym filled_front) (All-append Cell (odd_cells s) (thinned s.passed (map cell sent)) (odd_binary s) (thinned_binary s.passed (map cell sent))) in
+      let all : AllByRecursion Cell (take (s.used + length sent) filled) = subst (AllByRecursion Cell) (sym filled_front) (All-append Cell (odd_cells s) (thinned s.passed (map cell sent)) (odd_binary s) (thinned_binary s.passed (map cell sent))) in
       let long = length-take-le (s.used + length sent) filled (omega (arith, filled_length)) in
       subst Cell (get_or-take (s.used + length sent) filled i 0 h) (All-get_or Cell (take (s.used + length sent) filled) i 0 (omega arith) all)
 
