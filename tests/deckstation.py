@@ -1,5 +1,5 @@
 #!/usr/bin/env python3
-"""The station on scripts with stored lines, and on bytes that are no script:  tests/station.py STATION"""
+"""The station over the deck on scripts with stored lines, and on bytes that are no script:  tests/deckstation.py DECKSTATION"""
 import random
 import subprocess
 import sys
@@ -106,7 +106,7 @@ def main():
     rng = random.Random(1)
     for _ in range(300):
         lines(station, bytes(rng.choice((rng.randrange(9), rng.randrange(256))) for _ in range(rng.randrange(700))))
-    print(f"station: {len(SCRIPTS)} scripts with their lines, 300 of random bytes")
+    print(f"deckstation: {len(SCRIPTS)} scripts with their lines, 300 of random bytes")
 
 
 main()

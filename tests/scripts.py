@@ -1,9 +1,9 @@
 #!/usr/bin/env python3
-"""Random scripts through the station and the baseline's, line by line, and a few with stored lines.
+"""Random scripts through the station over the deck and the baseline's, line by line, and a few with stored lines.
 
     tests/scripts.py OURS [BASELINE [SEED [COUNT]]]
 
-OURS is the program of crates/station, BASELINE that of bench/ (bin station). Without BASELINE only the stored scripts are run.
+OURS is the program of crates/deckstation, BASELINE that of bench/ (bin station). Without BASELINE only the stored scripts are run.
 A script on which the two differ is left in the file differs.script of the folder for temporary files. `--store BASELINE` prints the stored scripts anew.
 Command 07 is left out, since the station has no survey yet.
 """
