@@ -1,4 +1,4 @@
-// The numbers that recording and replay go by, each with what is proved of them. The calls of the deck will name these laws.
+// The numbers that recording and replay go by, each with what is proved of them.
 ghost use Rattle.std.specs.Prelude.{◌≡◌};
 ghost use Rattle.deck.specs.Agreement.{ListAndTape};
 ghost use Rattle.deck.specs.CallsMade.{RoomToFinish};
