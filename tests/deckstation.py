@@ -1,11 +1,8 @@
 #!/usr/bin/env python3
 """The station over the deck on scripts with stored lines, and on bytes that are no script:  tests/deckstation.py DECKSTATION"""
-import random
-import subprocess
 import sys
 
-BLOCK = bytes([0x3C]) + bytes(range(256)) * 2
-WRITE = b"\x01" + BLOCK[:512]
+from station import WRITE, run
 
 # the first cell of the first copy's marker on an empty track, and from there to the next copy's
 FIRST = 15_000
@@ -89,24 +86,4 @@ SCRIPTS = [
     (b"\x05" * 4_096 + b"\x05", ["replay end 0"] * 4_096),
 ]
 
-
-def lines(station, script):
-    done = subprocess.run([station], input=script, capture_output=True)
-    if done.returncode != 0:
-        sys.exit(f"status {done.returncode} on {script[:40].hex()}..")
-    return done.stdout.decode().splitlines()
-
-
-def main():
-    station = sys.argv[1]
-    for i, (script, expected) in enumerate(SCRIPTS):
-        got = lines(station, script)
-        if got != expected:
-            sys.exit(f"script {i}: {got[:12]}.. for {expected[:12]}..")
-    rng = random.Random(1)
-    for _ in range(300):
-        lines(station, bytes(rng.choice((rng.randrange(9), rng.randrange(256))) for _ in range(rng.randrange(700))))
-    print(f"deckstation: {len(SCRIPTS)} scripts with their lines, 300 of random bytes")
-
-
-main()
+run("deckstation", sys.argv[1], SCRIPTS)

@@ -42,16 +42,17 @@ def lines(station, script):
     return done.stdout.decode().splitlines()
 
 
-def main():
-    station = sys.argv[1]
-    for i, (script, expected) in enumerate(SCRIPTS):
+def run(name, station, scripts):
+    """Scripts with the lines that they must print, and then bytes at random, on which the program must only end well."""
+    for i, (script, expected) in enumerate(scripts):
         got = lines(station, script)
         if got != expected:
             sys.exit(f"script {i}: {got[:12]}.. for {expected[:12]}..")
     rng = random.Random(1)
     for _ in range(300):
         lines(station, bytes(rng.choice((rng.randrange(9), rng.randrange(256))) for _ in range(rng.randrange(700))))
-    print(f"station: {len(SCRIPTS)} scripts with their lines, 300 of random bytes")
+    print(f"{name}: {len(scripts)} scripts with their lines, 300 of random bytes")
 
 
-main()
+if __name__ == "__main__":
+    run("station", sys.argv[1], SCRIPTS)

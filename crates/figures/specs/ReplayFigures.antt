@@ -7,6 +7,7 @@ use Rattle.replay.specs.Copies.{CopyAt, placed}
 use Rattle.replay.specs.declared.place.TapePlace.{TapePlace}
 use Rattle.replay.specs.Replay.{ReplayState, expecting, not_located, advance, rewound}
 
+-- a file mark under a number
 abbrev pub mark_of : ℕ → Numbered
 mark_of n = record { number = n; content = Mark }
 
