@@ -30,6 +30,7 @@ pub struct Starred {
 fn address_of(track: u8, number: u32) -> [u8; 4]
     ensures { 1 ≤ number → number ≤ 1048575 → result ≡ address track number }
 {
+    // a match, since a closure for map_or would need a contract of its own
     match Item::new(number, Content::Mark) {
         Some(item) => item.address(track),
         None => [0; 4],

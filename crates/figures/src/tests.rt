@@ -8,11 +8,13 @@ fn check_of_the_nine_digits(rt: HostRuntime) {
     assert_eq!(rt; crc(b""), 0xFFFF);
 }
 
+fn item(number: u32, content: Content) -> Result<Item, Fail> {
+    Item::new(number, content).ok_or_else(|| Fail::new("a number that fits"))
+}
+
 // How many cells the copy of a mark has.
 fn copy_length(preamble: Preamble) -> Result<usize, Fail> {
-    let Some(mark) = Item::new(7, Content::Mark) else {
-        return Err(Fail::new("a number that fits"));
-    };
+    let mark = item(7, Content::Mark)?;
     let mut cells = [0; LONGEST];
     Ok(encode(preamble, 3, &mark, &mut cells))
 }
@@ -29,9 +31,7 @@ fn lengths_of_copies(rt: HostRuntime) -> Result<(), Fail> {
 fn a_block_comes_back(rt: HostRuntime) -> Result<(), Fail> {
     let mut block = [0xFF; 512];
     block[0] = 0x3C;
-    let Some(item) = Item::new(70_000, Content::Block(block)) else {
-        return Err(Fail::new("a number that fits"));
-    };
+    let item = item(70_000, Content::Block(block))?;
     let mut cells = [9; LONGEST];
     let end = encode(Preamble::Normal, 2, &item, &mut cells);
     assert_eq!(rt; end, 5_315);
@@ -48,13 +48,13 @@ fn a_block_comes_back(rt: HostRuntime) -> Result<(), Fail> {
     };
     assert_eq!(rt; bytes[0], 0x3C);
     assert_eq!(rt; bytes[511], 0xFF);
-    assert!(rt; matches!(decode(3, body), Err(CopyFault::OtherTrack(2))));
+    assert_eq!(rt; decode(3, body), Err(CopyFault::OtherTrack(2)));
     Ok(())
 }
 
 #[test]
 fn faults_at_the_edges(rt: HostRuntime) -> Result<(), Fail> {
-    assert!(rt; matches!(decode(0, &[1; 5_179]), Err(CopyFault::TrackEnds)));
+    assert_eq!(rt; decode(0, &[1; 5_179]), Err(CopyFault::TrackEnds));
     let Err(CopyFault::Group(fault)) = decode(0, &[1; 5_180]) else {
         return Err(Fail::new("no group fault"));
     };

@@ -3,20 +3,21 @@ use Rattle.std.proofs.Common.{◌≡◌, ℕ, zero, suc, ◌+◌, ◌*◌, ◌/�
 use native.Mathlib.Nat.{min-le_left}
 use Rattle.std.specs.List.{AllByRecursion}
 use Rattle.std.proofs.lemmas.List.{length_push, length-append, append-nil, append_assoc, take_more, take_all, length-take-le, map_more, replicate_more, length-replicate, length-map, length-take}
+use Rattle.std.proofs.lemmas.List.Sums as sums
 use Rattle.std.proofs.lemmas.Nat.{pow_below}
 use Rattle.std.proofs.ByRecursion.{All-push, All-take, All-get_or}
 use Rattle.std.proofs.lemmas.Bool.{cond_both}
-use Rattle.qic24.specs.Cells.{fold, joined, bits, shift_in, number_of, Cell, cell, nibble_codes, nibble_cells, byte_cells, mark_cells}
-use Rattle.qic24.specs.Copy.{mark_data, ones, preamble_ones}
+use Rattle.qic24.specs.Cells.{fold, concat, bits, shift_in, number_of, Cell, cell, nibble_codes, nibble_cells, byte_cells, mark_cells}
+use Rattle.qic24.specs.Copy.{Numbered, ones, mark_data, preamble_ones, body, data_cells, coded, address, two_bytes, item_crc}
 use Rattle.qic24.specs.declared.layout.Preamble.{Preamble}
 use Rattle.qic24.specs.declared.layout.Preamble.TheVariants.{Normal, Elongated, Long}
 
+-- the library's, with the start last
 pub fold-append : {A B : Type 0} (f : B → A → B) (xs ys : List A) (z : B) → fold f z (xs ++ ys) ≡ fold f (fold f z xs) ys
-fold-append f [] ys z = refl
-fold-append f (x ∷ xs) ys z = fold-append f xs ys (f z x)
+fold-append f xs ys z = sums.fold-append f z xs ys
 
 pub number_of-push : (xs : List ℕ) (c : ℕ) → number_of (xs ++ c ∷ []) ≡ number_of xs * 2 + c
-number_of-push xs c = fold-append shift_in xs (c ∷ []) 0
+number_of-push xs c = sums.fold_push shift_in 0 xs c
 
 pub length-bits : (n v : ℕ) → length (bits n v) ≡ n
 unfolding bits
@@ -78,20 +79,20 @@ pub length_byte : (b : ℕ) → length (byte_cells b) ≡ 10
 unfolding byte_cells
 length_byte b = length-append (nibble_cells (b / 16)) (nibble_cells (b % 16)) ∙ ap (λ k. k + length (nibble_cells (b % 16))) (length_nibble (b / 16)) ∙ ap (λ k. 5 + k) (length_nibble (b % 16))
 
-pub length-coded : (bs : List ℕ) → length (joined (map byte_cells bs)) ≡ length bs * 10
+pub length-coded : (bs : List ℕ) → length (concat (map byte_cells bs)) ≡ length bs * 10
 length-coded [] = refl
 length-coded (b ∷ bs) =
     let h = length_byte b in
     let t = length-coded bs in
-    length-append (byte_cells b) (joined (map byte_cells bs)) ∙ omega arith
+    length-append (byte_cells b) (concat (map byte_cells bs)) ∙ omega arith
 
 -- one list more at the end
-pub joined-push : (xs : List (List ℕ)) (x : List ℕ) → joined (xs ++ x ∷ []) ≡ joined xs ++ x
-joined-push [] x = append-nil x
-joined-push (y ∷ xs) x = ap (λ (z : List ℕ). y ++ z) (joined-push xs x) ∙ sym (append_assoc y (joined xs) x)
+pub concat-push : (xs : List (List ℕ)) (x : List ℕ) → concat (xs ++ x ∷ []) ≡ concat xs ++ x
+concat-push [] x = append-nil x
+concat-push (y ∷ xs) x = ap (λ (z : List ℕ). y ++ z) (concat-push xs x) ∙ sym (append_assoc y (concat xs) x)
 
-pub coded-more : (bs : List ℕ) (i : ℕ) → i < length bs → joined (map byte_cells (take (i + 1) bs)) ≡ joined (map byte_cells (take i bs)) ++ byte_cells (get_or bs i 0)
-coded-more bs i h = ap joined (map_more byte_cells bs i 0 h) ∙ joined-push (map byte_cells (take i bs)) (byte_cells (get_or bs i 0))
+pub coded-more : (bs : List ℕ) (i : ℕ) → i < length bs → concat (map byte_cells (take (i + 1) bs)) ≡ concat (map byte_cells (take i bs)) ++ byte_cells (get_or bs i 0)
+coded-more bs i h = ap concat (map_more byte_cells bs i 0 h) ∙ concat-push (map byte_cells (take i bs)) (byte_cells (get_or bs i 0))
 
 pub mark_cells-is : mark_cells ≡ 0 ∷ 0 ∷ 1 ∷ 0 ∷ 1 ∷ 0 ∷ 0 ∷ 1 ∷ 0 ∷ 1 ∷ []
 unfolding mark_cells bits
@@ -99,18 +100,18 @@ mark_cells-is = refl
 
 -- a number of mark bytes
 abbrev pub marks : ℕ → List ℕ
-marks n = joined (replicate n mark_cells)
+marks n = concat (replicate n mark_cells)
 
 pub length-marks : (n : ℕ) → length (marks n) ≡ n * 10
 length-marks zero = refl
 length-marks (suc n) = length-append mark_cells (marks n) ∙ omega (arith, ap (λ (z : List ℕ). length z) mark_cells-is, length-marks n)
 
 pub marks-more : (n : ℕ) → marks (n + 1) ≡ marks n ++ mark_cells
-marks-more n = ap joined (sym (replicate_more n mark_cells)) ∙ joined-push (replicate n mark_cells) mark_cells
+marks-more n = ap concat (sym (replicate_more n mark_cells)) ∙ concat-push (replicate n mark_cells) mark_cells
 
 pub mark_data-at : (n : ℕ) → n ≡ 512 → marks n ≡ mark_data
 unfolding mark_data
-mark_data-at n e = ap (λ k. joined (replicate k mark_cells)) e
+mark_data-at n e = ap (λ k. concat (replicate k mark_cells)) e
 
 pub length-mark_data : length mark_data ≡ 5120
 length-mark_data = at_512 512 refl
@@ -118,9 +119,14 @@ length-mark_data = at_512 512 refl
     at_512 : (n : ℕ) → n ≡ 512 → length mark_data ≡ 5120
     at_512 n e = ap (λ (z : List ℕ). length z) (sym (mark_data-at n e)) ∙ length-marks n ∙ ap (λ k. k * 10) e
 
-pub coded-append : (xs ys : List ℕ) → joined (map byte_cells (xs ++ ys)) ≡ joined (map byte_cells xs) ++ joined (map byte_cells ys)
+pub coded-append : (xs ys : List ℕ) → concat (map byte_cells (xs ++ ys)) ≡ concat (map byte_cells xs) ++ concat (map byte_cells ys)
 coded-append [] ys = refl
-coded-append (x ∷ xs) ys = ap (λ (z : List ℕ). byte_cells x ++ z) (coded-append xs ys) ∙ sym (append_assoc (byte_cells x) (joined (map byte_cells xs)) (joined (map byte_cells ys)))
+coded-append (x ∷ xs) ys = ap (λ (z : List ℕ). byte_cells x ++ z) (coded-append xs ys) ∙ sym (append_assoc (byte_cells x) (concat (map byte_cells xs)) (concat (map byte_cells ys)))
+
+-- the body of an item whose data field is whole
+pub length_body : (t : ℕ) (i : Numbered) → length (data_cells i.content) ≡ 5120 → length (body t i) ≡ 5180
+unfolding body
+length_body t i h = length-append (data_cells i.content) (coded (address t i.number ++ two_bytes (item_crc t i))) ∙ omega (arith, length-coded (address t i.number ++ two_bytes (item_crc t i)))
 
 pub length-ones : (n : ℕ) → length (ones n) ≡ n
 unfolding ones

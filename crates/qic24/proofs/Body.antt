@@ -3,7 +3,7 @@ use Rattle.std.proofs.Common.{◌≡◌, ℕ, zero, suc, ◌+◌, ◌<◌, ◌�
 use Rattle.std.specs.List.{AllByRecursion}
 use Rattle.std.proofs.lemmas.List.{length-append, length-replicate}
 use Rattle.std.proofs.ByRecursion.{All-weaker}
-use Rattle.qic24.specs.Cells.{joined, mark_cells}
+use Rattle.qic24.specs.Cells.{concat, mark_cells}
 use Rattle.qic24.specs.Copy.{Numbered, Proper, ProperContent, body, coded, data_cells, mark_data, counted, mark_counts, address, two_bytes, item_crc}
 use Rattle.qic24.specs.Decode.{marks_in, byte_of, mixed, content_in}
 use Rattle.qic24.specs.declared.item.Content.{Content}
@@ -31,9 +31,9 @@ coded_spelled : (bs : List ℕ) → AllByRecursion (λ b. b < 256) bs → coded 
 coded_spelled [] h = refl
 coded_spelled (b ∷ bs) (h, hs) = ap (λ (z : List ℕ). z ++ coded bs) (sym (byte_entry b h)) ∙ ap (λ (z : List ℕ). entry-cells b ++ z) (coded_spelled bs hs)
 
-marks_spelled : (n : ℕ) → joined (replicate n mark_cells) ≡ spelled (replicate n 256)
+marks_spelled : (n : ℕ) → concat (replicate n mark_cells) ≡ spelled (replicate n 256)
 marks_spelled zero = refl
-marks_spelled (suc n) = ap (λ (z : List ℕ). z ++ joined (replicate n mark_cells)) (sym mark-entry) ∙ ap (λ (z : List ℕ). entry-cells 256 ++ z) (marks_spelled n)
+marks_spelled (suc n) = ap (λ (z : List ℕ). z ++ concat (replicate n mark_cells)) (sym mark-entry) ∙ ap (λ (z : List ℕ). entry-cells 256 ++ z) (marks_spelled n)
 
 mark_data_spelled : mark_data ≡ spelled mark_entries
 unfolding mark_data mark_entries

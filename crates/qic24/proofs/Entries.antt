@@ -3,12 +3,12 @@ use Rattle.std.proofs.Common.{◌≡◌, ℕ, zero, suc, ◌+◌, ◌*◌, ◌/�
 use Rattle.std.specs.List.{AllByRecursion}
 use Rattle.std.proofs.lemmas.List.{append_assoc, length-append, length-take-le, length-drop, take_at, drop_at}
 use Rattle.std.proofs.ByRecursion.{All-append, All-take, All-drop}
-use Rattle.std.proofs.lemmas.Bool.{cond_both, cond-true, cond-false, ne_eqb, eqb-true, eqb-false, or_cases}
-use Rattle.qic24.specs.Cells.{joined, bits, number_of, Cell, nibble_codes, nibble_cells, byte_cells, mark_cells}
+use Rattle.std.proofs.lemmas.Bool.{agree_below_at, cond_both, cond-true, cond-false, ne_eqb, eqb-true, eqb-false, or_cases}
+use Rattle.qic24.specs.Cells.{concat, bits, number_of, Cell, nibble_codes, nibble_cells, byte_cells, mark_cells}
 use Rattle.qic24.specs.declared.fault.GroupFault.{GroupFault}
 use Rattle.qic24.specs.Decode.{entry, groups, first_fault, no_code_at, fault_at, marks_in, byte_of}
 use Rattle.qic24.proofs.Binary.{length_byte, bits-binary, bits-number, number_of-below, mark_cells-is}
-use Rattle.qic24.proofs.Tables.{at_below, same_below}
+use Rattle.qic24.proofs.Tables.{same_below}
 
 -- the cells of an entry
 unfoldable pub entry-cells : ℕ → List ℕ
@@ -50,8 +50,8 @@ entry_of_number e h = same_below (λ e. entry (group_number e)) (λ e. e) 257 re
 number_of-entry : (g : ℕ) → g < 1024 → (entry g ≡ 257) ⊎ (group_number (entry g) ≡ g)
 unfolding entry entry-cells nibble_codes nibble_cells byte_cells mark_cells bits
 number_of-entry g h =
-    at_below (λ g. eqb (entry g) 257 || eqb (group_number (entry g)) g) (λ g. (entry g ≡ 257) ⊎ (group_number (entry g) ≡ g))
-    (λ g e. ⊎_elim (λ p. inl (eqb-true (entry g) 257 p)) (λ p. inr (eqb-true (group_number (entry g)) g p)) (or_cases (eqb (entry g) 257) (eqb (group_number (entry g)) g) e)) 1024 refl g h
+    ⊎_elim (λ p. inl (eqb-true (entry g) 257 p)) (λ p. inr (eqb-true (group_number (entry g)) g p))
+    (or_cases (eqb (entry g) 257) (eqb (group_number (entry g)) g) (agree_below_at (λ g. eqb (entry g) 257 || eqb (group_number (entry g)) g) (λ _. true) 1024 g refl h))
 
 pub cells_of_group : (g : ℕ) → g < 1024 → entry g ≤ 256 → entry-cells (entry g) ≡ bits 10 g
 cells_of_group g h k =
@@ -62,7 +62,7 @@ cells_of_group g h k =
 
 -- entries, each as its cells, one after the other
 abbrev pub spelled : List ℕ → List ℕ
-spelled es = joined (map entry-cells es)
+spelled es = concat (map entry-cells es)
 
 pub spelled_append : (xs ys : List ℕ) → spelled (xs ++ ys) ≡ spelled xs ++ spelled ys
 spelled_append [] ys = refl

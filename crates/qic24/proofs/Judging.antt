@@ -1,10 +1,12 @@
 -- The first cause, case by case.
 use Rattle.std.proofs.Common.{◌≡◌, ℕ, ◌/◌, ◌<◌, ◌≤◌, Bool, true, false, cond, ◌&&◌, ltb, leb, List, map, length, get_or, take, Some, None, Ok, Err, Option, Result, sym, refl, ap, ◌∙◌, ⊎_elim, arith}
 use Rattle.std.proofs.lemmas.Bool.{lt-ltb, le-ltb, eq-eqb, ne_eqb, cond-true, cond-false, and_parts, leb-true, leb-false, le-leb, cases_eq, cases_Bool, cases_lt}
-use Rattle.qic24.specs.Copy.{Numbered, item_from}
+use Rattle.std.specs.Option.{option_map, ok_or}
+use Rattle.qic24.specs.Copy.{Numbered, item_from, held}
+use Rattle.qic24.specs.declared.item.Item.{Item}
 use Rattle.qic24.specs.declared.item.Content.{Content}
 use Rattle.qic24.specs.Crc.{crc}
-use Rattle.qic24.specs.Decode.{decoded, by_groups, judged, groups, first_fault, byte_of, marks_in, mixed, word_at, number_in, content_in}
+use Rattle.qic24.specs.Decode.{decoded, by_groups, judged, groups, first_fault, byte_of, marks_in, mixed, word_at, number_in, content_in, mapped_ok}
 use Rattle.qic24.specs.declared.fault.CopyFault.{CopyFault}
 use Rattle.qic24.specs.declared.fault.CopyFault.TheVariants.{TrackEnds, Group, Mixed, Check, OtherTrack, Control, NumberZero}
 use Rattle.qic24.specs.declared.fault.GroupFault.{GroupFault}
@@ -63,6 +65,14 @@ from-none n x e h = by (leb 1 n) refl e
         let r : ◌≡◌ {A = Option Numbered} None (Some (record { number = n; content = x })) = q ∙ ap (λ b. cond b (Some (record { number = n; content = x })) None) (le-leb n 1048575 h) in
         absurd (let z : ◌≡◌ {A = ℕ} 0 1 = cc in omega arith)
     by false p q = let k = leb-false 1 n p in omega arith
+
+-- the item under the number and with the content that were read, or that the number is 0
+pub made : (t m : ℕ) (bs : List ℕ) → mixed m ≡ false → crc (take 516 bs) ≡ word_at bs 516 → get_or bs 512 0 ≡ t → get_or bs 513 0 / 16 ≡ 0 →
+    (o : Option Item) → number_in bs ≤ 1048575 → option_map held o ≡ item_from (number_in bs) (content_in m bs) → mapped_ok held (ok_or o NumberZero) ≡ judged t m bs
+made t m bs a b c d None h e = sym (judged-zero t m bs a b c d (from-none (number_in bs) (content_in m bs) e h))
+made t m bs a b c d (Some i) h e =
+    let f = from_some (held i) (number_in bs) (content_in m bs) e in
+    ap Ok f.0 ∙ sym (judged-item t m bs a b c d (λ q. omega (arith, f.1)))
 
 -- what holds where an item is read
 pub record JudgedOk (t m : ℕ) (bs : List ℕ) (i : Numbered) : Type 0 where

@@ -1,7 +1,9 @@
 pub mod Tables
 pub mod Binary
+pub mod CopyCells
 pub mod Register
 pub mod Overlay
+pub mod Pens
 pub mod Groups
 pub mod Judging
 pub mod Openings

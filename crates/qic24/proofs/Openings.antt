@@ -4,11 +4,12 @@ use native.Mathlib.Nat.{pow-le-pow_right}
 use Rattle.std.specs.List.{AllByRecursion}
 use Rattle.std.proofs.lemmas.List.{take-append-drop, length-take-le, length-drop, drop-drop, drop-take, take_more, length-take, get_or-drop}
 use Rattle.std.proofs.ByRecursion.{All-take, All-drop, All-get_or}
+use Rattle.std.proofs.lemmas.List.Sums.{fold-append}
 use Rattle.std.proofs.lemmas.Bool.{cases_lt}
 use Rattle.std.proofs.lemmas.Nat.{pow_below, mod_low}
 use Rattle.qic24.specs.Cells.{fold, shift_in, number_of, bits, Cell}
 use Rattle.qic24.specs.Opening.{opening, Opens}
-use Rattle.qic24.proofs.Binary.{fold-append, number_of-below, number_of-push, bits-number}
+use Rattle.qic24.proofs.Binary.{number_of-below, number_of-push, bits-number}
 
 from-number : (xs : List ℕ) (z : ℕ) → fold shift_in z xs ≡ z * 2 ^ length xs + number_of xs
 from-number [] z = omega arith
@@ -28,7 +29,7 @@ low_part xs n h l k =
     let zs = drop (n - 14) xs in
     let lz : length zs ≡ 14 = length-drop (n - 14) xs ∙ omega arith in
     let e : number_of xs ≡ number_of ys * 2 ^ 14 + number_of zs =
-    ap number_of (sym (take-append-drop (n - 14) xs)) ∙ fold-append shift_in ys zs 0 ∙ from-number zs (number_of ys) ∙ ap (λ w. number_of ys * 2 ^ w + number_of zs) lz in
+    ap number_of (sym (take-append-drop (n - 14) xs)) ∙ fold-append shift_in 0 ys zs ∙ from-number zs (number_of ys) ∙ ap (λ w. number_of ys * 2 ^ w + number_of zs) lz in
     let b : number_of zs < 2 ^ 14 = subst (λ w. number_of zs < 2 ^ w) lz (number_of-below zs (All-drop Cell (n - 14) xs h)) in
     ap (λ v. v % 16384) e ∙ mod_low (number_of ys) 14 (number_of zs) b
 

@@ -1,8 +1,7 @@
 -- Writing parts of a buffer one after the other.
-use Rattle.std.proofs.Common.{◌≡◌, ℕ, ◌+◌, ◌*◌, ◌/◌, ◌%◌, ◌<◌, ◌≤◌, List, [], ◌++◌, length, get_or, take, drop, sym, ap, ◌∙◌, subst, add-zero, add_assoc, arith}
+use Rattle.std.proofs.Common.{◌≡◌, ℕ, ◌+◌, ◌≤◌, List, [], ◌++◌, length, take, drop, sym, ap, ◌∙◌, add-zero, add_assoc, arith}
 use borrow.Rule.Slice.PartMut.{put_mid}
-use Rattle.std.proofs.lemmas.List.{append_assoc, length-append, length-take-le, length-drop, take_at, drop_at, drop-drop, take-append-drop, ext_get_or, get_or-take, get_or-drop}
-use Rattle.std.proofs.lemmas.Nat.{div-mul-add, mod-mul-add}
+use Rattle.std.proofs.lemmas.List.{append_assoc, length-append, length-take-le, length-drop, take_at, drop_at, drop-drop, take-append-drop}
 use Rattle.qic24.specs.Buffers.{overlaid}
 
 -- after a write to `out[at..end]`
@@ -31,17 +30,6 @@ overlay_overlay o at xs ys h =
     ap (λ (z : List ℕ). (t ++ xs) ++ (ys ++ z)) b ∙
     append_assoc t xs (ys ++ drop (at + length (xs ++ ys)) o) ∙
     ap (λ (z : List ℕ). t ++ z) (sym (append_assoc xs ys (drop (at + length (xs ++ ys)) o)))
-
--- a row of a table that has its rows one after the other
-pub table_row : (w n m : ℕ) (row : ℕ → List ℕ) (xs : List ℕ) → ((k : ℕ) → k < m → get_or xs k 0 ≡ get_or (row (k / w)) (k % w) 0) → length (row n) ≡ w → n * w + w ≤ m → m ≤ length xs → take w (drop (n * w) xs) ≡ row n
-table_row w n m row xs each l h k =
-    let e : length (take w (drop (n * w) xs)) ≡ w = length-take-le w (drop (n * w) xs) (rw length-drop (omega arith)) in
-    ext_get_or 0 (take w (drop (n * w) xs)) (row n) (e ∙ sym l)
-    (λ i q. let r : i < w = subst (λ z. i < z) e q in
-    let s : n * w + i < m = omega arith in
-    let d = each (n * w + i) s in
-    get_or-take w (drop (n * w) xs) i 0 r ∙ get_or-drop (n * w) xs i 0 ∙ d ∙
-    ap (λ z. get_or (row z) ((n * w + i) % w) 0) (div-mul-add n w i r) ∙ ap (λ z. get_or (row n) z 0) (mod-mul-add n w i r))
 
 -- one part more, right after what is written
 pub overlay_more : (o cur next : List ℕ) (at end : ℕ) (ws xs : List ℕ) → cur ≡ overlaid o at ws → end ≡ at + length ws → at + length ws ≤ length o → next ≡ overlaid cur end xs → next ≡ overlaid o at (ws ++ xs)

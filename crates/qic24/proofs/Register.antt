@@ -8,8 +8,9 @@ use Rattle.qic24.specs.Crc.{crc_step, bits_of, crc_from, crc, remainder}
 use Rattle.std.proofs.ByRecursion.{All-append}
 use Rattle.std.proofs.lemmas.List.{append-nil}
 use Rattle.qic24.specs.Tables.{Table}
+use Rattle.std.proofs.lemmas.List.Sums.{fold-append}
 use Rattle.qic24.proofs.Tables.{entry-is, same_below}
-use Rattle.qic24.proofs.Binary.{fold-append, length-bits, bits-binary}
+use Rattle.qic24.proofs.Binary.{length-bits, bits-binary}
 
 -- the register moved up by one, with nothing coming in
 abbrev pub shifted : ℕ → ℕ
@@ -121,7 +122,7 @@ byte_in r b h k =
 
 -- one byte after the other
 pub crc_from-more : (r b : ℕ) (bs : List ℕ) → crc_from r (b ∷ bs) ≡ crc_from (crc_from r (b ∷ [])) bs
-crc_from-more r b bs = fold-append crc_step (bits 8 b) (bits_of bs) r ∙ ap (λ (xs : List ℕ). fold crc_step (fold crc_step r xs) (bits_of bs)) (sym (append-nil (bits 8 b)))
+crc_from-more r b bs = fold-append crc_step r (bits 8 b) (bits_of bs) ∙ ap (λ (xs : List ℕ). fold crc_step (fold crc_step r xs) (bits_of bs)) (sym (append-nil (bits 8 b)))
 
 -- the same by a table of the remainders
 pub by_table : (xs : List ℕ) (r b : ℕ) → r < 65536 → b < 256 → Table 256 remainder xs →

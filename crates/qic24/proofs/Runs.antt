@@ -1,13 +1,12 @@
 -- No nine ones in a row: nine cells in a row hold a whole nibble, and every nibble has a zero.
-use Rattle.std.proofs.Common.{◌≡◌, ℕ, zero, suc, ◌+◌, ◌-◌, ◌*◌, ◌/◌, ◌<◌, ◌≤◌, not, ◌&&◌, eqb, List, [], ◌∷◌, ◌++◌, length, get_or, take, drop, replicate, sym, refl, ap, ◌∙◌, ⊎_elim, le_of_suc-le-suc, not-suc-le-zero, arith, lit<}
+use Rattle.std.proofs.Common.{◌≡◌, ℕ, zero, suc, ◌+◌, ◌-◌, ◌*◌, ◌/◌, ◌<◌, ◌≤◌, true, not, ◌&&◌, eqb, List, [], ◌∷◌, ◌++◌, length, get_or, take, drop, replicate, sym, refl, ap, ◌∙◌, ⊎_elim, le_of_suc-le-suc, not-suc-le-zero, arith, lit<}
 use Rattle.std.specs.List.{AllByRecursion}
 use Rattle.std.proofs.lemmas.List.{append_assoc, length-take, length-take-le, length-drop, take-append-drop, get_or_append_left, get_or-append_right, get_or-take, get_or-drop, get_or-replicate, ext_get_or}
 use Rattle.std.proofs.ByRecursion.{All-append, All-get_or, All-weaker}
-use Rattle.std.proofs.lemmas.Bool.{and_parts, not-true, eqb-false, cases_lt}
-use Rattle.qic24.specs.Cells.{joined, bits, number_of, nibble_codes, nibble_cells, byte_cells, mark_cells}
+use Rattle.std.proofs.lemmas.Bool.{agree_below_at, and_parts, not-true, eqb-false, cases_lt}
+use Rattle.qic24.specs.Cells.{concat, bits, number_of, nibble_codes, nibble_cells, byte_cells, mark_cells}
 use Rattle.qic24.specs.Copy.{Numbered, Proper, body}
 use Rattle.qic24.specs.Opening.{opening, Opens, SoundAt}
-use Rattle.qic24.proofs.Tables.{at_below}
 use Rattle.qic24.proofs.Entries.{entry-cells, length-entry, spelled}
 use Rattle.qic24.proofs.Body.{data_entries, tail_bytes, entries, body_spelled, length_entries, data_small, tail_small}
 use Rattle.qic24.proofs.Exactly.{length-body}
@@ -21,7 +20,7 @@ abbrev halves : List ℕ → List (List ℕ)
 halves [] = []
 halves (e ∷ es) = take 5 (entry-cells e) ∷ drop 5 (entry-cells e) ∷ halves es
 
-spelled_halves : (es : List ℕ) → spelled es ≡ joined (halves es)
+spelled_halves : (es : List ℕ) → spelled es ≡ concat (halves es)
 spelled_halves [] = refl
 spelled_halves (e ∷ es) =
     ap (λ (z : List ℕ). z ++ spelled es) (sym (take-append-drop 5 (entry-cells e))) ∙ append_assoc (take 5 (entry-cells e)) (drop 5 (entry-cells e)) (spelled es) ∙
@@ -34,11 +33,11 @@ length_halves (e ∷ es) = omega (arith, length_halves es)
 zeros : (e : ℕ) → e < 257 → (number_of (take 5 (entry-cells e)) ≡ 31 → ⊥) × (number_of (drop 5 (entry-cells e)) ≡ 31 → ⊥)
 unfolding entry-cells nibble_codes nibble_cells byte_cells mark_cells bits
 zeros e h =
-    at_below (λ e. not (eqb (number_of (take 5 (entry-cells e))) 31) && not (eqb (number_of (drop 5 (entry-cells e))) 31))
-    (λ e. (number_of (take 5 (entry-cells e)) ≡ 31 → ⊥) × (number_of (drop 5 (entry-cells e)) ≡ 31 → ⊥))
-    (λ e p. let q = and_parts (not (eqb (number_of (take 5 (entry-cells e))) 31)) (not (eqb (number_of (drop 5 (entry-cells e))) 31)) p in
-    (eqb-false (number_of (take 5 (entry-cells e))) 31 (not-true (eqb (number_of (take 5 (entry-cells e))) 31) q.0), eqb-false (number_of (drop 5 (entry-cells e))) 31 (not-true (eqb (number_of (drop 5 (entry-cells e))) 31) q.1)))
-    257 refl e h
+    let left = number_of (take 5 (entry-cells e)) in
+    let right = number_of (drop 5 (entry-cells e)) in
+    let p = agree_below_at (λ e. not (eqb (number_of (take 5 (entry-cells e))) 31) && not (eqb (number_of (drop 5 (entry-cells e))) 31)) (λ _. true) 257 e refl h in
+    let q = and_parts (not (eqb left 31)) (not (eqb right 31)) p in
+    (eqb-false left 31 (not-true (eqb left 31) q.0), eqb-false right 31 (not-true (eqb right 31) q.1))
 
 nibbles : (es : List ℕ) → AllByRecursion (λ e. e < 257) es → AllByRecursion Nibble (halves es)
 nibbles [] h = tt
@@ -48,14 +47,14 @@ nibbles (e ∷ es) (h, hs) =
     ((length-take-le 5 (entry-cells e) (omega arith), z.0), ((length-drop 5 (entry-cells e) ∙ omega arith, z.1), nibbles es hs))
 
 -- a cell of a nibble
-nibble_at : (hs : List (List ℕ)) → AllByRecursion Nibble hs → (m j : ℕ) → m < length hs → j < 5 → get_or (joined hs) (m * 5 + j) 0 ≡ get_or (get_or hs m []) j 0
+nibble_at : (hs : List (List ℕ)) → AllByRecursion Nibble hs → (m j : ℕ) → m < length hs → j < 5 → get_or (concat hs) (m * 5 + j) 0 ≡ get_or (get_or hs m []) j 0
 nibble_at [] a m j h k = absurd (not-suc-le-zero h)
-nibble_at (x ∷ hs) (a, more) zero j h k = ap (λ n. get_or (x ++ joined hs) n 0) (omega arith) ∙ get_or_append_left x (joined hs) 0 j (omega (arith, a.0))
+nibble_at (x ∷ hs) (a, more) zero j h k = ap (λ n. get_or (x ++ concat hs) n 0) (omega arith) ∙ get_or_append_left x (concat hs) 0 j (omega (arith, a.0))
 nibble_at (x ∷ hs) (a, more) (suc m) j h k =
-    get_or-append_right x (joined hs) 5 (suc m * 5 + j) 0 a.0 (omega arith) ∙ ap (λ n. get_or (joined hs) n 0) (omega arith) ∙ nibble_at hs more m j (le_of_suc-le-suc h) k
+    get_or-append_right x (concat hs) 5 (suc m * 5 + j) 0 a.0 (omega arith) ∙ ap (λ n. get_or (concat hs) n 0) (omega arith) ∙ nibble_at hs more m j (le_of_suc-le-suc h) k
 
 -- the three ones of the marker, then nibbles
-no_nine : (hs : List (List ℕ)) → AllByRecursion Nibble hs → length (joined hs) ≡ length hs * 5 → (k : ℕ) → k + 9 ≤ 3 + length (joined hs) → ((j : ℕ) → j < 9 → get_or (1 ∷ 1 ∷ 1 ∷ joined hs) (k + j) 0 ≡ 1) → ⊥
+no_nine : (hs : List (List ℕ)) → AllByRecursion Nibble hs → length (concat hs) ≡ length hs * 5 → (k : ℕ) → k + 9 ≤ 3 + length (concat hs) → ((j : ℕ) → j < 9 → get_or (1 ∷ 1 ∷ 1 ∷ concat hs) (k + j) 0 ≡ 1) → ⊥
 no_nine hs a l k h one =
     let m = (k + 1) / 5 in
     let lm : m < length hs = omega arith in
@@ -63,12 +62,12 @@ no_nine hs a l k h one =
     let nx : Nibble x = All-get_or Nibble hs m [] lm a in
     let at : (j : ℕ) → j < 5 → get_or x j 0 ≡ 1 = λ j q.
     let f : 3 + (m * 5 + j) ≡ k + (3 + (m * 5 + j) - k) = omega arith in
-    sym (nibble_at hs a m j lm q) ∙ sym (cell hs (m * 5 + j)) ∙ ap (λ n. get_or (1 ∷ 1 ∷ 1 ∷ joined hs) n 0) f ∙ one (3 + (m * 5 + j) - k) (omega arith) in
+    sym (nibble_at hs a m j lm q) ∙ sym (cell hs (m * 5 + j)) ∙ ap (λ n. get_or (1 ∷ 1 ∷ 1 ∷ concat hs) n 0) f ∙ one (3 + (m * 5 + j) - k) (omega arith) in
     let e : x ≡ 1 ∷ 1 ∷ 1 ∷ 1 ∷ 1 ∷ [] = ext_get_or 0 x (1 ∷ 1 ∷ 1 ∷ 1 ∷ 1 ∷ []) nx.0 (λ j q. at j (omega (arith, nx.0)) ∙ sym (ones-at j (omega (arith, nx.0)))) in
     nx.1 (ap number_of e)
   where
-    cell : (hs : List (List ℕ)) (n : ℕ) → get_or (1 ∷ 1 ∷ 1 ∷ joined hs) (3 + n) 0 ≡ get_or (joined hs) n 0
-    cell hs n = get_or-append_right (1 ∷ 1 ∷ 1 ∷ []) (joined hs) 3 (3 + n) 0 refl (omega arith) ∙ ap (λ k. get_or (joined hs) k 0) (omega arith)
+    cell : (hs : List (List ℕ)) (n : ℕ) → get_or (1 ∷ 1 ∷ 1 ∷ concat hs) (3 + n) 0 ≡ get_or (concat hs) n 0
+    cell hs n = get_or-append_right (1 ∷ 1 ∷ 1 ∷ []) (concat hs) 3 (3 + n) 0 refl (omega arith) ∙ ap (λ k. get_or (concat hs) k 0) (omega arith)
 
     ones-at : (j : ℕ) → j < 5 → get_or {A = ℕ} (1 ∷ 1 ∷ 1 ∷ 1 ∷ 1 ∷ []) j 0 ≡ 1
     ones-at j q = get_or-replicate 5 j 1 0 q
@@ -80,8 +79,8 @@ entries_small t i h p = All-append (λ e. e < 257) (data_entries i.content) (tai
 no_nine_in_body : (t : ℕ) (i : Numbered) → t < 256 → Proper i → (k : ℕ) → k + 9 ≤ 5183 → ((j : ℕ) → j < 9 → get_or (1 ∷ 1 ∷ 1 ∷ body t i) (k + j) 0 ≡ 1) → ⊥
 no_nine_in_body t i h p k l one =
     let es = entries t i in
-    let b : body t i ≡ joined (halves es) = body_spelled t i h p ∙ spelled_halves es in
-    let lb : length (joined (halves es)) ≡ 5180 = ap (λ (z : List ℕ). length z) (sym b) ∙ length-body t i h p in
+    let b : body t i ≡ concat (halves es) = body_spelled t i h p ∙ spelled_halves es in
+    let lb : length (concat (halves es)) ≡ 5180 = ap (λ (z : List ℕ). length z) (sym b) ∙ length-body t i h p in
     let lh : length (halves es) ≡ 1036 = length_halves es ∙ ap (λ n. n * 2) (length_entries t i p.content) in
     no_nine (halves es) (nibbles es (entries_small t i h p)) (omega arith) k (omega arith) (λ j q. ap (λ (z : List ℕ). get_or (1 ∷ 1 ∷ 1 ∷ z) (k + j) 0) (sym b) ∙ one j q)
 

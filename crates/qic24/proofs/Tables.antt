@@ -1,7 +1,6 @@
 -- A rule of a table, or of every number below a limit, by one test that is computed over the whole of it.
-use Rattle.std.proofs.Common.{◌≡◌, ℕ, zero, suc, ◌+◌, ◌<◌, Bool, true, ◌&&◌, eqb, List, [], ◌∷◌, length, get_or, sym, refl, ◌∙◌, subst, le_of_suc-le-suc, not-suc-le-zero, add-zero, add-suc, suc-add, zero-add}
-use Rattle.std.proofs.lemmas.Bool.{and_parts, eqb-true}
-use Rattle.std.proofs.lemmas.Bool.Decides.{Decides-below_and}
+use Rattle.std.proofs.Common.{◌≡◌, ℕ, zero, suc, ◌+◌, ◌<◌, Bool, true, eqb, List, [], ◌∷◌, length, get_or, sym, ◌∙◌, subst, le_of_suc-le-suc, not-suc-le-zero, add-zero, add-suc, suc-add, zero-add}
+use Rattle.std.proofs.lemmas.Bool.{agree_below, agree_below_at, and_parts, eqb-true}
 use Rattle.qic24.specs.Tables.{every, Table}
 
 from : (f : ℕ → ℕ → Bool) (xs : List ℕ) (i : ℕ) → every f i xs ≡ true → (k : ℕ) → k < length xs → f (i + k) (get_or xs k 0) ≡ true
@@ -18,13 +17,6 @@ entry-is {n} {rule} {xs} t k h =
     (subst (λ (m : ℕ). eqb (get_or xs k 0) (rule m) ≡ true) (zero-add k)
     (from (λ k x. eqb x (rule k)) xs 0 t.right k (subst (λ m. k < m) (sym t.size) h)))
 
--- the test passes at each number below n
-abbrev pub below : (ℕ → Bool) → ℕ → Bool
-below f zero = true
-below f (suc n) = f n && below f n
-
-pub at_below : (f : ℕ → Bool) (P : ℕ → Type 0) → ((k : ℕ) → f k ≡ true → P k) → (n : ℕ) → below f n ≡ true → (k : ℕ) → k < n → P k
-at_below f P each n t k h = each k ((Decides-below_and f (λ k. f k ≡ true) (below f) (λ k. (λ e. e, λ e. e)) refl (λ _. refl) n).0 t k h)
-
-pub same_below : (f g : ℕ → ℕ) (n : ℕ) → below (λ k. eqb (f k) (g k)) n ≡ true → (k : ℕ) → k < n → f k ≡ g k
-same_below f g n t k h = at_below (λ k. eqb (f k) (g k)) (λ k. f k ≡ g k) (λ k e. eqb-true (f k) (g k) e) n t k h
+-- two functions give one number at each number below n
+pub same_below : (f g : ℕ → ℕ) (n : ℕ) → agree_below (λ k. eqb (f k) (g k)) (λ _. true) n ≡ true → (k : ℕ) → k < n → f k ≡ g k
+same_below f g n t k h = eqb-true (f k) (g k) (agree_below_at (λ k. eqb (f k) (g k)) (λ _. true) n k t h)

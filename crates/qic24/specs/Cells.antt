@@ -1,15 +1,7 @@
 -- Cells, and the group code that bytes are recorded in. A cell is 1, a flux transition, or 0; the leftmost is recorded first.
 use Rattle.std.specs.Prelude.{ℕ, zero, suc, ◌+◌, ◌*◌, ◌/◌, ◌%◌, ◌<◌, cond, List, [], ◌∷◌, ◌++◌, ◌==◌, slice_index}
-
--- f taken over a list from its front, starting at z
-abbrev pub fold : {A B : Type 0} → (B → A → B) → B → List A → B
-fold f z [] = z
-fold f z (x ∷ xs) = fold f (f z x) xs
-
--- lists, one after the other
-abbrev pub joined : List (List ℕ) → List ℕ
-joined [] = []
-joined (x ∷ xs) = x ++ joined xs
+pub use Rattle.std.specs.Prelude.{fold}
+pub use Rattle.std.specs.List.{concat}
 
 -- the last n bits of a number as cells, the high bit first
 unfoldable pub bits : ℕ → ℕ → List ℕ
@@ -41,10 +33,6 @@ nibble_codes =
 -- a nibble's five cells
 unfoldable pub nibble_cells : ℕ → List ℕ
 nibble_cells n = bits 5 (slice_index nibble_codes n)
-
--- the k-th cell of all the nibbles' cells, one nibble after the other
-abbrev pub nibble_cell : ℕ → ℕ
-nibble_cell k = slice_index (nibble_cells (k / 5)) (k % 5)
 
 -- a byte is its high nibble, then its low nibble
 unfoldable pub byte_cells : ℕ → List ℕ

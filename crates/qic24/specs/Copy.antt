@@ -1,8 +1,9 @@
 -- The recorded copy of an item: preamble, marker, data, address, CRC and postamble.
-use Rattle.std.specs.Prelude.{◌≡◌, ℕ, ◌/◌, ◌%◌, ◌<◌, ◌≤◌, cond, ◌&&◌, List, [], ◌∷◌, ◌++◌, map, length, replicate, Some, None, Option, nat_le}
+use Rattle.std.specs.Prelude.{◌≡◌, ℕ, ◌/◌, ◌%◌, ◌<◌, ◌≤◌, cond, ◌&&◌, List, [], ◌∷◌, ◌++◌, length, replicate, Some, None, Option, nat_le}
 use Rattle.std.specs.List.{AllByRecursion}
-use Rattle.qic24.specs.Cells.{joined, byte_cells, mark_cells}
 use Rattle.qic24.specs.Crc.{crc}
+unfoldable pub use Rattle.qic24.specs.Data.{mark_data}
+pub use Rattle.qic24.specs.Data.{coded, data_cells}
 use Rattle.qic24.specs.declared.item.Content.{Content}
 use Rattle.qic24.specs.declared.item.Content.TheVariants.{Block, Mark}
 use Rattle.qic24.specs.declared.item.Item.{Item}
@@ -39,26 +40,13 @@ preamble_ones Normal = 120
 preamble_ones Elongated = 3500
 preamble_ones Long = 15000
 
--- a run of n ones. Like the other lists below that are long at a numeral, it is shut
+-- a run of n ones. Like the other lists that are long at a numeral, it is shut
 unfoldable pub ones : ℕ → List ℕ
 ones n = replicate n 1
 
 -- the marker: five ones, then 00111
 abbrev pub marker : List ℕ
 marker = 1 ∷ 1 ∷ 1 ∷ 1 ∷ 1 ∷ 0 ∷ 0 ∷ 1 ∷ 1 ∷ 1 ∷ []
-
--- bytes, each as its ten cells
-abbrev pub coded : List ℕ → List ℕ
-coded bs = joined (map byte_cells bs)
-
--- 512 times the mark byte
-unfoldable pub mark_data : List ℕ
-mark_data = joined (replicate 512 mark_cells)
-
--- the data field
-abbrev pub data_cells : Content → List ℕ
-data_cells (Block bs) = coded bs
-data_cells Mark = mark_data
 
 -- a mark counts for the CRC as 512 bytes FF
 unfoldable pub mark_counts : List ℕ

@@ -1,5 +1,7 @@
 -- What the cells after an opening are read as: an item, or the first cause why they are none.
 use Rattle.std.specs.Prelude.{◌≡◌, ℕ, zero, suc, ◌+◌, ◌*◌, ◌/◌, ◌%◌, Bool, cond, not, ◌&&◌, ◌||◌, List, [], ◌∷◌, map, length, take, drop, Some, None, Ok, Err, Option, Result, ◌==◌, nat_le, nat_lt, slice_index}
+use Rattle.std.specs.Result.{result_map_both}
+use Rattle.std.specs.List.{position_or_len}
 use Rattle.qic24.specs.Cells.{number_of, nibble_codes}
 use Rattle.qic24.specs.Copy.{Numbered}
 use Rattle.qic24.specs.Crc.{crc}
@@ -11,8 +13,7 @@ use Rattle.qic24.specs.declared.fault.GroupFault.{GroupFault}
 
 -- where a number first stands in a list, or the list's length
 abbrev pub position : List ℕ → ℕ → ℕ
-position [] v = 0
-position (x ∷ xs) v = cond (x == v) 0 (suc (position xs v))
+position ns v = position_or_len (λ x. x == v) ns
 
 -- two nibbles as a byte, or 257 where one of them is none
 abbrev pub byte_from : ℕ → ℕ → ℕ
@@ -73,8 +74,7 @@ content_in m bs = cond (m == 0) (Block (take 512 bs)) Mark
 
 -- an answer with its item as what the item holds
 abbrev pub mapped_ok : {A B E : Type 0} → (A → B) → Result A E → Result B E
-mapped_ok f (Ok x) = Ok (f x)
-mapped_ok f (Err e) = Err e
+mapped_ok f r = result_map_both f (λ e. e) r
 
 -- 518 bytes, m of them mark bytes: data, address and CRC
 abbrev pub judged : ℕ → ℕ → List ℕ → Result Numbered CopyFault

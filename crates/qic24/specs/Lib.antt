@@ -1,9 +1,13 @@
 pub mod Tables
 pub mod Buffers
+pub mod Pens
 pub mod Measures
 pub mod Cells
 pub mod Crc
+pub mod Data
 pub mod Copy
 pub mod Decode
+pub mod Symbols
 pub mod Opening
 pub mod Laws
+pub mod Texts

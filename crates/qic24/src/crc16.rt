@@ -1,10 +1,7 @@
 // The cyclic redundancy check of a copy: a byte at a time, by a table.
 ghost use Rattle.std.specs.Prelude.{◌≡◌, [], ◌∷◌};
 ghost use Rattle.qic24.specs.Crc.{crc, crc_from, remainder};
-ghost use Rattle.qic24.specs.Copy.{counted, mark_counts, item_crc, held};
 ghost use Rattle.qic24.specs.Tables.{Table};
-
-use crate::item::{Content, Item};
 
 const REMAINDERS: [u16; 256] = [
     0x0000, 0x1021, 0x2042, 0x3063, 0x4084, 0x50A5, 0x60C6, 0x70E7, 0x8108, 0x9129, 0xA14A, 0xB16B,
@@ -34,7 +31,7 @@ const REMAINDERS: [u16; 256] = [
 // The register of all ones that every check starts from.
 const START: u16 = 0xFFFF;
 
-// For each byte the register after it, from a register of zeros.
+// For each byte the register after it, from a register of zeros. A constant carries no contract, so this function does.
 fn remainders() -> &'static [u16; 256]
     ensures { Table 256 remainder result.now }
 {
@@ -51,7 +48,7 @@ fn feed(register: u16, byte: u8) -> u16
 }
 
 // The register after some bytes more.
-fn feed_all(register: u16, bytes: &[u8]) -> u16
+pub(crate) fn feed_all(register: u16, bytes: &[u8]) -> u16
     ensures { result ≡ crc_from register bytes.now }
 {
     let mut after = register;
@@ -61,38 +58,9 @@ fn feed_all(register: u16, bytes: &[u8]) -> u16
     after
 }
 
-// The register after the data of a mark, which counts as 512 bytes FF.
-fn feed_mark(register: u16) -> u16
-    ensures { result ≡ crc_from register mark_counts }
-{
-    let mut after = register;
-    for _count in 0..512usize {
-        after = feed(after, 0xFF);
-    }
-    after
-}
-
 // The CRC of some bytes.
 pub fn crc(bytes: &[u8]) -> u16
     ensures { result ≡ crc bytes.now }
 {
     feed_all(START, bytes)
-}
-
-// The register after the data of an item.
-fn feed_data(content: &Content) -> u16
-    ensures { result ≡ crc (counted content.now) }
-{
-    match content {
-        Content::Block(bytes) => feed_all(START, bytes),
-        Content::Mark => feed_mark(START),
-    }
-}
-
-// The CRC of an item on a track: its data, then its address.
-pub(crate) fn item_crc(track: u8, item: &Item) -> u16
-    ensures { result ≡ item_crc track (held item.now) }
-{
-    let register = feed_data(item.content());
-    feed_all(register, &item.address(track))
 }

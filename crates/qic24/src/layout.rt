@@ -1,9 +1,29 @@
-// The lengths of preambles.
+// The lengths of a copy's parts.
 ghost use Rattle.std.specs.Prelude.{◌≡◌};
 ghost use Rattle.qic24.specs.Copy.{preamble_ones};
 
+// The bytes of the data.
+pub(crate) const DATA: usize = 512;
+
+// The cells of the data, ten to a byte.
+pub(crate) const DATA_CELLS: usize = DATA * 10;
+
+// The bytes that the CRC is over: data and address.
+pub(crate) const CHECKED: usize = DATA + 4;
+
+// The groups of ten cells of data, address and CRC.
+pub(crate) const GROUPS: usize = CHECKED + 2;
+
+// Their cells, which follow an opening.
+pub const BODY: usize = GROUPS * 10;
+
+// The cells of the longest copy, which a long preamble begins.
+pub const LONGEST: usize = 20_195;
+
+pub(crate) const POSTAMBLE: usize = 5;
+
 // The run of ones before a copy's marker.
-#[derive(Clone, Copy)]
+#[derive(Clone, Copy, PartialEq, Eq, Debug)]
 pub enum Preamble {
     // between two copies of a recording
     Normal,

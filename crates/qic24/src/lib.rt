@@ -9,13 +9,14 @@ mod fault;
 mod item;
 mod layout;
 mod opening;
+mod pen;
 mod reading;
 mod sense;
 
 pub use crc16::crc;
-pub use decoding::{BODY, decode};
-pub use encoding::{LONGEST, code_byte, encode};
+pub use decoding::decode;
+pub use encoding::{code_byte, encode};
 pub use fault::{CopyFault, GroupFault};
 pub use item::{Content, Item};
-pub use layout::Preamble;
-pub use opening::find_opening;
+pub use layout::{BODY, LONGEST, Preamble};
+pub use opening::{OPENING, find_opening};

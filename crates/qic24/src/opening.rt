@@ -7,7 +7,7 @@ ghost use Rattle.qic24.specs.Opening.{FirstOpening};
 use crate::sense::cell_of;
 
 // The cells of an opening: nine ones, then 00111.
-const OPENING: usize = 14;
+pub const OPENING: usize = 14;
 
 // They as a number, the first one highest.
 const PATTERN: u16 = 0b11_1111_1110_0111;
@@ -20,12 +20,13 @@ pub fn find_opening(cells: &[u8], from: usize) -> Option<usize>
     ensures inside { NoOpeningInside }
 {
     let start = from.saturating_sub(OPENING);
+    let near = cells.get(start..)?;
     // the last fourteen cells since the start; the pattern begins with a one, so fewer cannot match it
     let mut seen = 0;
-    for place in start..cells.len() {
-        seen = (seen & 0x1FFF) * 2 + cell_of(cells[place]);
+    for (more, cell) in near.iter().enumerate() {
+        seen = (seen & 0x1FFF) * 2 + cell_of(*cell);
         if seen == PATTERN {
-            return Some(place + 1);
+            return Some(start + more + 1);
         }
     }
     None

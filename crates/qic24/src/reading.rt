@@ -2,13 +2,10 @@
 ghost use Rattle.qic24.specs.Decode.{entry};
 ghost use Rattle.qic24.specs.Tables.{Table};
 
-// The entry of the mark byte.
+// The entry of the mark byte. A number for a kind, because the table's entries are the published form.
 pub(crate) const MARK_BYTE: u16 = 256;
 
-// The entry of a group that is no code.
-pub(crate) const NO_CODE: u16 = 257;
-
-// For each group, its first cell highest: the byte, MARK_BYTE or NO_CODE.
+// For each group, its first cell highest: the byte, MARK_BYTE, or 257 where it is no code.
 const READING: [u16; 1024] = [
     257, 257, 257, 257, 257, 257, 257, 257, 257, 257, 257, 257, 257, 257, 257, 257, 257, 257, 257,
     257, 257, 257, 257, 257, 257, 257, 257, 257, 257, 257, 257, 257, 257, 257, 257, 257, 257, 257,
@@ -65,6 +62,7 @@ const READING: [u16; 1024] = [
     257, 257, 257, 257, 257, 257, 257, 257, 257, 257, 257, 257, 257, 257, 257,
 ];
 
+// A constant carries no contract, so this function, which lends it, says what it holds.
 pub(crate) fn reading() -> &'static [u16; 1024]
     ensures { Table 1024 entry result.now }
 {

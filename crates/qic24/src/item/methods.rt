@@ -1,12 +1,26 @@
 // Making an item, and looking at it.
 ghost use Rattle.std.specs.Prelude.{◌≡◌};
 ghost use Rattle.std.specs.Option.{option_map};
-ghost use Rattle.qic24.specs.Copy.{held, item_from, address};
+ghost use Rattle.qic24.specs.Copy.{held, item_from, address, counted, item_crc, two_bytes};
+ghost use Rattle.qic24.specs.Crc.{crc};
 
-use super::{Content, Item};
+use super::{Content, Item, MOST};
+use crate::crc16::{crc, feed_all};
+use crate::layout::DATA;
 
-// The greatest number that the 20 bits of an address hold.
-const MOST: u32 = 1_048_575;
+// What a mark's data count as.
+const MARK_COUNTS: [u8; DATA] = [0xFF; DATA];
+
+impl Content {
+    fn crc(&self) -> u16
+        ensures { result ≡ crc (counted self.now) }
+    {
+        match self {
+            Content::Block(bytes) => crc(bytes),
+            Content::Mark => crc(&MARK_COUNTS),
+        }
+    }
+}
 
 impl Item {
     // None where the number is 0 or does not fit an address.
@@ -35,12 +49,21 @@ impl Item {
     pub fn address(&self, track: u8) -> [u8; 4]
         ensures { result ≡ address track self.now.number }
     {
-        let number = self.number;
-        [
-            track,
-            (number / 0x1_0000) as u8,
-            (number / 0x100 % 0x100) as u8,
-            (number % 0x100) as u8,
-        ]
+        let [_, high, middle, low] = self.number.to_be_bytes();
+        [track, high, middle, low]
+    }
+
+    // The CRC on a track: over the data, then the address.
+    fn crc(&self, track: u8) -> u16
+        ensures { result ≡ item_crc track (held self.now) }
+    {
+        feed_all(self.content.crc(), &self.address(track))
+    }
+
+    // Its two bytes, high byte first.
+    pub(crate) fn check_bytes(&self, track: u8) -> [u8; 2]
+        ensures { result ≡ two_bytes (item_crc track (held self.now)) }
+    {
+        self.crc(track).to_be_bytes()
     }
 }

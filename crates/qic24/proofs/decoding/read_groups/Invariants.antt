@@ -6,6 +6,6 @@ use Rattle.qic24.proofs.decoding.read_groups.Given as goal
 abbrev pub invariant-loop-index : goal.invariant-loop-index
 invariant-loop-index l =
     (length l.bytes ≡ 518) ×
-    (first_fault l.index (drop l.index (groups 518 (map cell l.cells))) ≡ first_fault 0 (groups 518 (map cell l.cells))) ×
-    (take l.index l.bytes ≡ map byte_of (take l.index (groups 518 (map cell l.cells)))) ×
-    (l.marks ≡ marks_in (take l.index (groups 518 (map cell l.cells)))) × (l.marks ≤ l.index)
+    (first_fault l.index (drop l.index (groups 518 (map cell l.body))) ≡ first_fault 0 (groups 518 (map cell l.body))) ×
+    (take l.index l.bytes ≡ map byte_of (take l.index (groups 518 (map cell l.body)))) ×
+    (l.marks ≡ marks_in (take l.index (groups 518 (map cell l.body)))) × (l.marks ≤ l.index)

@@ -1,7 +1,0 @@
-use Rattle.std.proofs.Common.{refl}
-use Rattle.qic24.specs.Cells.{bits, nibble_codes, nibble_cells}
-use Rattle.qic24.proofs.encoding.nibbles.Goals as goal
-
-pub returns : goal.returns
-unfolding nibble_cells nibble_codes bits
-returns c = record { size = refl; right = refl }
