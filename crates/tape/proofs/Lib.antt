@@ -2,5 +2,5 @@ pub mod Masking
 pub mod Promised
 pub mod Replies
 pub mod Searching
-pub mod TableFlaws
 pub mod Tapes
+pub mod Touching

@@ -3,7 +3,7 @@ use Rattle.std.proofs.Common.{◌≡◌, ℕ, ◌<◌, ◌≤◌, cond, ltb, leb
 use Rattle.std.proofs.lemmas.Result.{MatchResult-at_ok}
 use Rattle.tape.specs.Tape.{Tape, track}
 use Rattle.tape.specs.Calls.{read_answer}
-use Rattle.std.proofs.lemmas.Bool.{lt-ltb, le-ltb, le-leb, lt-leb, cases_lt, cond-true, cond-false}
+use Rattle.std.proofs.lemmas.Bool.{lt-ltb, le-ltb, le-leb, cases_lt, cond-true, cond-false}
 use Rattle.tape.specs.declared.refusal.Refusal.{Refusal}
 use Rattle.tape.specs.declared.refusal.Refusal.TheVariants.{NoTrack}
 
@@ -11,12 +11,6 @@ use Rattle.tape.specs.declared.refusal.Refusal.TheVariants.{NoTrack}
 module _ {X : Type 0} (t n a b : ℕ) (x y z : X) where
   pub accepted : t < n → a ≤ b → x ≡ cond (ltb t n) (cond (leb a b) x y) z
   accepted h k = sym (cond-true (ltb t n) (cond (leb a b) x y) z (lt-ltb t n h) ∙ cond-true (leb a b) x y (le-leb a b k))
-
-  pub exceeded : t < n → b < a → y ≡ cond (ltb t n) (cond (leb a b) x y) z
-  exceeded h k = sym (cond-true (ltb t n) (cond (leb a b) x y) z (lt-ltb t n h) ∙ cond-false (leb a b) x y (lt-leb a b k))
-
-  pub absent : n ≤ t → z ≡ cond (ltb t n) (cond (leb a b) x y) z
-  absent h = sym (cond-false (ltb t n) (cond (leb a b) x y) z (le-ltb t n h))
 
 -- a length that was answered
 pub length-told : (t n m x : ℕ) → ◌≡◌ {A = Result ℕ Refusal} (Ok x) (cond (ltb t n) (Ok m) (Err NoTrack)) → (t < n) × (x ≡ m)
@@ -27,17 +21,6 @@ length-told t n m x e = elim (cases_lt t n) [
       let z : ◌≡◌ {A = ℕ} 0 1 = cc in
       absurd (omega arith)
 ]
-
--- a call that both tests let through is not refused
-pub not-refused : (t n a b : ℕ) (r y z : Result (Unit {0}) Refusal) (e : Refusal) → t < n → a ≤ b → r ≡ Err e → r ≡ cond (ltb t n) (cond (leb a b) (Ok tt) y) z → ⊥
-not-refused t n a b r y z e h k is told =
-    let g : ◌≡◌ {A = Result (Unit {0}) Refusal} (Err e) (Ok tt) = sym is ∙ (told ∙ sym (accepted t n a b (Ok tt) y z h k)) in
-    let q : ◌≡◌ {A = ℕ} 0 1 = cc in
-    omega arith
-
-pub made_from_cases : {X Y : Type 0} (r : Result X Y) (P P' : X → Type 0) (Q : Y → Type 0) → MatchResult r P Q → ((x : X) → P x → P' x) → IfOk r P'
-made_from_cases (Ok x) P P' Q h f = f x h
-made_from_cases (Err y) P P' Q h f = tt
 
 -- two reads of equal cells
 pub reads_same : (a b : Tape) (t p : ℕ) (x x' y y' : List ℕ) (q r : Result (Unit {0}) Refusal) → q ≡ read_answer a t p (length x) → r ≡ read_answer b t p (length y)

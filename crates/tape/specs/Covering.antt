@@ -38,7 +38,7 @@ covers_held t p f w l (a, b) = (omega arith, (omega arith, omega arith))
 pub held_covers : (t p : ℕ) (f : Flaw) → Covers t p f → Holds (flaw_first f) f.extent (cell_number t p)
 held_covers t p f (e, (a, b)) = (omega arith, omega arith)
 
-module _ (fs : List Flaw) (apart : Apart fs (length fs)) (whole : Whole fs (length fs)) (t p : ℕ) (l : p < 100000000) where
+module _ (fs : List Flaw) (apart : Apart fs) (whole : Whole fs) (t p : ℕ) (l : p < 100000000) where
   pub sought_under : (i : ℕ) → Sought flaw_first (λ f. f.extent) fs (cell_number t p) i → under fs t p ≡ true
   sought_under i s = under_at t p i fs s.inside (covers_held t p (slice_index_or fs i no_flaw) (whole i s.inside) l (s.holds no_flaw))
 
@@ -81,7 +81,7 @@ cell_masked fs t p (x ∷ xs) = ap (λ (n : ℕ). n ∷ map cell (masked fs t (p
     either false = refl
 
 -- cells that share a number with the flaw at k
-pub touched_not_clean : (fs : List Flaw) → Whole fs (length fs) → (t p n k : ℕ) → p + n ≤ 100000000 → k < length fs
+pub touched_not_clean : (fs : List Flaw) → Whole fs → (t p n k : ℕ) → p + n ≤ 100000000 → k < length fs
     → max (cell_number t p) (flaw_first (slice_index_or fs k no_flaw)) < min (cell_number t p + n) (flaw_end (slice_index_or fs k no_flaw)) → Clean fs t p n → ⊥
 touched_not_clean fs whole t p n k l h m c =
     let f = get_or fs k no_flaw in

@@ -1,5 +1,5 @@
 -- Flaws, and the cells under them.
-use Rattle.std.specs.Prelude.{◌≡◌, ℕ, ◌+◌, ◌-◌, ◌*◌, ◌<◌, ◌≤◌, Bool, false, cond, ◌&&◌, ◌||◌, List, [], ◌∷◌, length, get_or, Ok, Err, Result, ◌==◌, nat_le, nat_lt, slice_index_or}
+use Rattle.std.specs.Prelude.{◌≡◌, ℕ, ◌+◌, ◌-◌, ◌*◌, ◌<◌, ◌≤◌, min, max, Bool, false, cond, ◌&&◌, ◌||◌, List, [], ◌∷◌, length, get_or, Ok, Err, Result, ◌==◌, nat_le, nat_lt, slice_index_or}
 use Rattle.tape.specs.declared.refusal.Refusal.{Refusal}
 use Rattle.tape.specs.declared.refusal.Refusal.TheVariants.{SheetFull, FlawOutside, FlawTooEarly}
 use Rattle.tape.specs.Tape.{most_cells}
@@ -38,17 +38,21 @@ abbrev pub masked : List Flaw → ℕ → ℕ → List ℕ → List ℕ
 masked fs t p [] = []
 masked fs t p (x ∷ xs) = cond (under fs t p) 0 x ∷ masked fs t (p + 1) xs
 
+-- one of the n cells from the place p of the track t on has a number that the flaw has
+abbrev pub meets : ℕ → ℕ → ℕ → Flaw → Bool
+meets t p n f = nat_lt (max (cell_number t p) (flaw_first f)) (min (cell_number t p + n) (flaw_end f))
+
 -- none of the n cells from the place p of the track t on is under a flaw
 abbrev pub Clean : List Flaw → ℕ → ℕ → ℕ → Type 0
 Clean fs t p n = (i : ℕ) → i < n → under fs t (p + i) ≡ false
 
--- the first n of some flaws are in order and disjoint
-abbrev pub Apart : List Flaw → ℕ → Type 0
-Apart fs n = (i j : ℕ) → i < j → j < n → flaw_end (slice_index_or fs i no_flaw) ≤ flaw_first (slice_index_or fs j no_flaw)
+-- flaws are in order and disjoint
+abbrev pub Apart : List Flaw → Type 0
+Apart fs = (i j : ℕ) → i < j → j < length fs → flaw_end (slice_index_or fs i no_flaw) ≤ flaw_first (slice_index_or fs j no_flaw)
 
 -- and none goes past the longest possible track
-abbrev pub Whole : List Flaw → ℕ → Type 0
-Whole fs n = (i : ℕ) → i < n → (get_or fs i no_flaw).place + (get_or fs i no_flaw).extent ≤ most_cells
+abbrev pub Whole : List Flaw → Type 0
+Whole fs = (i : ℕ) → i < length fs → (get_or fs i no_flaw).place + (get_or fs i no_flaw).extent ≤ most_cells
 
 -- a flaw has cells, on a cartridge with n tracks of c cells
 abbrev pub flaw_fits : ℕ → ℕ → Flaw → Bool

@@ -24,6 +24,7 @@ pub trait Reading {
         ensures { result ≡ length_answer (cells self.now) at };
 
     // Copies cells from a place on, a byte 0 or 1 for each.
+    // Track and place stay two parameters: as one struct, every call of this trait would change and read no plainer.
     fn read(&self, at: u8, place: u32, out: &mut [u8]) -> Result<(), Refusal>
         ensures answer { result ≡ read_answer (cells self.now) at place (length out.old) }
         ensures buffer { MatchResult result (λ _. out.new ≡ take (length out.old) (drop place (track (cells self.now) at))) (λ _. out.new ≡ out.old) };

@@ -5,7 +5,7 @@ ghost use Rattle.tape.specs.Flaws.{cell_number, flaw_first, flaw_end};
 use crate::limits::MOST_CELLS;
 use crate::stretch::Stretch;
 
-#[derive(Clone, Copy, PartialEq, Eq, Debug)]
+#[derive(Clone, Copy, PartialEq, Eq, Debug, Default)]
 pub struct Flaw {
     // The track.
     pub on: u8,
@@ -18,7 +18,7 @@ impl Flaw {
     pub fn end(&self) -> u64
         ensures { result ≡ flaw_end self.now }
     {
-        cell_number(self.on, self.place) + self.extent as u64
+        self.first() + self.extent()
     }
 }
 
@@ -32,7 +32,7 @@ impl Stretch for Flaw {
     }
 
     fn extent(&self) -> u64 {
-        self.extent as u64
+        u64::from(self.extent)
     }
 }
 
@@ -40,5 +40,5 @@ impl Stretch for Flaw {
 pub(crate) fn cell_number(at: u8, place: u32) -> u64
     ensures { result ≡ cell_number at place }
 {
-    at as u64 * MOST_CELLS as u64 + place as u64
+    u64::from(at) * u64::from(MOST_CELLS) + u64::from(place)
 }

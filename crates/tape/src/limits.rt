@@ -9,5 +9,5 @@ pub const MOST_CELLS: u32 = 100_000_000;
 pub fn sizes_allowed(tracks: u8, capacity: u32) -> bool
     ensures { result ≡ within_limits tracks capacity }
 {
-    1 <= tracks && tracks as usize <= MOST_TRACKS && 1 <= capacity && capacity <= MOST_CELLS
+    (1..=MOST_TRACKS).contains(&usize::from(tracks)) && (1..=MOST_CELLS).contains(&capacity)
 }

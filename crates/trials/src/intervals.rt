@@ -13,11 +13,11 @@ fn spells_long_gaps(rt: HostRuntime) -> Result<(), Fail> {
     assert_eq!(rt; store.append(0, &sent), Ok(()));
     let mut cells = [9; 3];
     assert_eq!(rt; store.read(0, 299, &mut cells), Ok(()));
-    assert!(rt; cells[0] == 0 && cells[1] == 1 && cells[2] == 1);
+    assert_eq!(rt; cells, [0, 1, 1]);
     assert_eq!(rt; store.read(0, 300, &mut cells), Err(Refusal::PastEnd));
     let memory = store.into_memory();
     assert!(rt; memory.len() == 600);
-    assert!(rt; memory[0] == 255 && memory[1] == 45 && memory[2] == 0);
+    assert!(rt; memory.as_slice().starts_with(&[255, 45, 0]));
     Ok(())
 }
 
@@ -27,14 +27,14 @@ fn reads_from_every_place(rt: HostRuntime) -> Result<(), Fail> {
     let (mut store, made) = IntervalStore::new(vec![in rt.alloc(); 255; 4000]?, 2, 2000);
     assert_eq!(rt; made, Ok(()));
     for i in 0..2000u32 {
-        assert_eq!(rt; store.append(1, &[(i % 7 == 6) as u8]), Ok(()));
+        assert_eq!(rt; store.append(1, &[u8::from(i % 7 == 6)]), Ok(()));
     }
     assert_eq!(rt; store.append(1, &[1]), Err(Refusal::TrackFull));
     for place in 0..1990u32 {
         let mut cells = [9; 10];
         assert_eq!(rt; store.read(1, place, &mut cells), Ok(()));
-        for (k, cell) in cells.iter().enumerate() {
-            assert_eq!(rt; *cell, ((place as usize + k) % 7 == 6) as u8);
+        for (i, cell) in (place..).zip(&cells) {
+            assert_eq!(rt; *cell, u8::from(i % 7 == 6));
         }
     }
     assert_eq!(rt; store.length(0), Ok(0));

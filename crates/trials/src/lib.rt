@@ -3,6 +3,8 @@
 #![tactic(auto)]
 
 #[cfg(test)]
+mod flaws;
+#[cfg(test)]
 mod intervals;
 
 #[cfg(test)]
@@ -10,7 +12,9 @@ mod tests {
     use oddtape::OddTape;
     use packed::PackedStore;
     use std::test::Fail;
-    use tape::{Flaw, FlawSheet, Reading, Recording, Refusal, read_both};
+    use tape::{
+        Reading, Recording, Refusal, Sizes, check_append, check_read, read_both, track_length,
+    };
 
     // Memory that was used before: a blank store does not show it, and only the cells of the second track are written.
     #[test]
@@ -24,11 +28,10 @@ mod tests {
         assert_eq!(rt; store.append(1, &[0]), Err(Refusal::TrackFull));
         assert_eq!(rt; store.append(2, &[]), Err(Refusal::NoTrack));
         let memory = store.into_memory();
-        assert!(rt; memory.len() == 4);
-        assert_eq!(rt; memory[0], 0xA5);
-        assert_eq!(rt; memory[1], 0xA5);
-        assert_eq!(rt; memory[2], 0b1011_0001);
-        assert_eq!(rt; memory[3], 0b1010_0101);
+        assert_eq!(rt;
+            memory.as_slice(),
+            [0xA5, 0xA5, 0b1011_0001, 0b1010_0101].as_slice()
+        );
         Ok(())
     }
 
@@ -57,139 +60,39 @@ mod tests {
         assert_eq!(rt; store.length(0), Err(Refusal::NoTrack));
         let (_, enough) = PackedStore::new(vec![in rt.alloc(); 0u8; 18]?, 9, 9);
         assert_eq!(rt; enough, Ok(()));
-        let (_, none) = PackedStore::new(vec![in rt.alloc(); 0u8; 18]?, 0, 9);
-        assert_eq!(rt; none, Err(Refusal::BadStore));
-        let (_, ten) = PackedStore::new(vec![in rt.alloc(); 0u8; 20]?, 10, 9);
-        assert_eq!(rt; ten, Err(Refusal::BadStore));
-        let (_, empty) = PackedStore::new(vec![in rt.alloc(); 0u8; 18]?, 9, 0);
-        assert_eq!(rt; empty, Err(Refusal::BadStore));
-        let (_, large) = PackedStore::new(vec![in rt.alloc(); 0u8; 18]?, 1, 100_000_001);
-        assert_eq!(rt; large, Err(Refusal::BadStore));
+        for (bytes, tracks, capacity) in [
+            (18, 0, 9),
+            (20, 10, 9),
+            (18, 9, 0),
+            (18, 1, 100_000_001),
+        ] {
+            let (_, made) = PackedStore::new(vec![in rt.alloc(); 0u8; bytes]?, tracks, capacity);
+            assert_eq!(rt;
+                made,
+                Err(Refusal::BadStore),
+                "{tracks} tracks of {capacity} cells"
+            );
+        }
         assert_eq!(rt; Refusal::BadStore.number(), 7);
         Ok(())
     }
 
-    // A sheet over a sheet: each sends a zero under its own flaws.
+    // What the stores share: 9 cells take two bytes of a packed track.
     #[test]
-    fn flaws_send_zeros(rt: HostRuntime) -> Result<(), Fail> {
-        let (store, _) = PackedStore::new(vec![in rt.alloc(); 0u8; 4]?, 2, 10);
-        let mut inner = FlawSheet::new(store);
+    fn shares_sizes_and_tests(rt: HostRuntime) -> Result<(), Fail> {
         assert_eq!(rt;
-            inner.enter(Flaw {
-                on: 1,
-                place: 9,
-                extent: 1,
-            }),
-            Ok(())
+            Sizes::over(2, 9, 2, 4).map(|sizes| (sizes.tracks, sizes.capacity)),
+            Ok((2, 9))
         );
-        let mut sheet = FlawSheet::new(inner);
-        assert_eq!(rt;
-            sheet.enter(Flaw {
-                on: 2,
-                place: 0,
-                extent: 1,
-            }),
-            Err(Refusal::FlawOutside)
-        );
-        assert_eq!(rt;
-            sheet.enter(Flaw {
-                on: 0,
-                place: 9,
-                extent: 2,
-            }),
-            Err(Refusal::FlawOutside)
-        );
-        assert_eq!(rt;
-            sheet.enter(Flaw {
-                on: 0,
-                place: 0,
-                extent: 0,
-            }),
-            Err(Refusal::FlawOutside)
-        );
-        assert_eq!(rt;
-            sheet.enter(Flaw {
-                on: 0,
-                place: 9,
-                extent: 1,
-            }),
-            Ok(())
-        );
-        assert_eq!(rt;
-            sheet.enter(Flaw {
-                on: 1,
-                place: 0,
-                extent: 2,
-            }),
-            Ok(())
-        );
-        assert_eq!(rt;
-            sheet.enter(Flaw {
-                on: 1,
-                place: 1,
-                extent: 1,
-            }),
-            Err(Refusal::FlawTooEarly)
-        );
-        assert_eq!(rt;
-            sheet.enter(Flaw {
-                on: 1,
-                place: 2,
-                extent: 1,
-            }),
-            Ok(())
-        );
-        assert_eq!(rt; sheet.append(1, &[1]), Ok(()));
-        assert_eq!(rt; sheet.append(1, &[1, 1, 1, 0, 1, 1, 1, 1, 1]), Ok(()));
-        let mut out = [9u8; 10];
-        assert_eq!(rt; sheet.read(1, 0, &mut out), Ok(()));
-        assert_eq!(rt; out, [0, 0, 0, 1, 0, 1, 1, 1, 1, 0]);
+        assert_eq!(rt; Sizes::over(2, 9, 2, 3), Err(Refusal::BadStore));
+        assert_eq!(rt; Sizes::none().capacity, 0);
+        assert_eq!(rt; check_read(4, 1, 3), Ok(()));
+        assert_eq!(rt; check_read(4, 2, 3), Err(Refusal::PastEnd));
+        assert_eq!(rt; check_append(4, 5, 9), Ok(()));
+        assert_eq!(rt; check_append(4, 6, 9), Err(Refusal::TrackFull));
+        let line = format!(in rt.alloc(); "refused {}", Refusal::SheetFull)?;
+        assert_eq!(rt; line.as_str(), "refused 19");
         Ok(())
-    }
-
-    #[test]
-    fn holds_64_flaws(rt: HostRuntime) -> Result<(), Fail> {
-        let (store, _) = PackedStore::new(vec![in rt.alloc(); 0u8; 20]?, 1, 160);
-        let mut sheet = FlawSheet::new(store);
-        for i in 0..64u32 {
-            assert_eq!(rt;
-                sheet.enter(Flaw {
-                    on: 0,
-                    place: 2 * i,
-                    extent: 1,
-                }),
-                Ok(())
-            );
-        }
-        assert_eq!(rt; sheet.flaws().len(), 64);
-        assert_eq!(rt;
-            sheet.enter(Flaw {
-                on: 9,
-                place: 0,
-                extent: 0,
-            }),
-            Err(Refusal::SheetFull)
-        );
-        Ok(())
-    }
-
-    // Every third one is dropped, counted over both appends; the sheet's zero is no one.
-    #[test]
-    fn drops_every_third_one(rt: HostRuntime) {
-        let mut sheet = FlawSheet::new(OddTape::new());
-        assert_eq!(rt;
-            sheet.enter(Flaw {
-                on: 0,
-                place: 1,
-                extent: 1,
-            }),
-            Ok(())
-        );
-        assert_eq!(rt; sheet.append(0, &[1, 1, 1]), Ok(()));
-        assert_eq!(rt; sheet.append(0, &[1, 0, 1, 1, 1]), Ok(()));
-        let mut out = [9u8; 8];
-        assert_eq!(rt; sheet.read(0, 0, &mut out), Ok(()));
-        assert_eq!(rt; out, [1, 0, 1, 0, 0, 1, 1, 0]);
     }
 
     #[test]
@@ -198,6 +101,8 @@ mod tests {
         let mut odd = OddTape::new();
         assert_eq!(rt; store.append(0, &[1, 0, 1, 0]), Ok(()));
         assert_eq!(rt; odd.append(0, &[1, 0, 1, 1]), Ok(()));
+        assert_eq!(rt; track_length(&odd, 0), track_length(&store, 0));
+        assert_eq!(rt; track_length(&odd, 1), 0);
         let mut one = [9u8; 3];
         let mut other = [8u8; 3];
         assert_eq!(rt;

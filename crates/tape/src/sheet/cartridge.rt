@@ -1,14 +1,14 @@
 // A flaw sheet as a cartridge.
-ghost use Rattle.std.specs.Prelude.{◌≡◌, ◌+◌, ◌<◌, ◌≤◌, map, length, Ok, OnOk};
-ghost use Rattle.tape.specs.Calls.{append_answer};
-ghost use Rattle.tape.specs.Tape.{most_cells, track, cell, run};
+ghost use Rattle.std.specs.Prelude.{◌≡◌, ◌+◌, ◌<◌, ◌≤◌, map, length, Ok};
+ghost use Rattle.tape.specs.Tape.{track, cell, run};
 ghost use Rattle.tape.specs.Flaws.{masked, Clean};
 ghost use Rattle.tape.specs.Sheets.{sheet_flaws, Passes, sheet_takes};
 ghost use Rattle.tape.specs.Sendings.{passes_longer, sends_keep};
-ghost use Rattle.std.proofs.Common.{rules};
 
+use crate::calls::{check_append, track_length};
 use crate::cartridge::{Reading, Recording};
 use crate::refusal::Refusal;
+use crate::run::PlacedRun;
 use crate::sheet::FlawSheet;
 
 impl<C: Reading> Reading for FlawSheet<C> {
@@ -18,15 +18,15 @@ impl<C: Reading> Reading for FlawSheet<C> {
 
     ghost takes = { sheet_takes C.Reading.cells C.Reading.takes };
 
-    ghost few = { Prim.search rules };
+    ghost few = { λ s. C.Reading.few s.inner };
 
-    ghost small = { Prim.search rules };
+    ghost small = { λ s. C.Reading.small s.inner };
 
-    ghost empty = { Prim.search rules };
+    ghost empty = { λ s. C.Reading.empty s.inner };
 
-    ghost inside = { Prim.search rules };
+    ghost inside = { λ s. C.Reading.inside s.inner };
 
-    ghost binary = { Prim.search rules };
+    ghost binary = { λ s. C.Reading.binary s.inner };
 
     ghost grows = { λ s r e t. passes_longer C.Reading.cells C.Reading.takes C.Reading.grows (sheet_flaws s) s.inner r e.inner t.0 };
 
@@ -52,12 +52,15 @@ impl<C: Recording> Recording for FlawSheet<C> {
 
     // The room is tested once, before anything is sent on.
     fn append(&mut self, at: u8, sent: &[u8]) -> Result<(), Refusal> {
-        let length = self.inner.length(at)?;
-        if sent.len() > (self.inner.capacity() - length) as usize {
-            return Err(Refusal::TrackFull);
-        }
-        if self.table.touches(at, length, sent.len()) {
-            self.send_masked(at, length, sent)
+        let place = self.inner.length(at)?;
+        check_append(place, sent.len(), self.inner.capacity())?;
+        let run = PlacedRun {
+            on: at,
+            place,
+            sent,
+        };
+        if self.table.touches(&run) {
+            self.send_masked(at, sent)
         } else {
             self.inner.append(at, sent)
         }
@@ -68,35 +71,37 @@ impl<C: Recording> Recording for FlawSheet<C> {
 const PART: usize = 512;
 
 impl<C: Recording> FlawSheet<C> {
-    // Sends cells for the places from `place` on, with a zero wherever one is under a flaw.
-    fn send_part(&mut self, at: u8, place: u32, sent: &[u8]) -> Result<(), Refusal>
-        requires part { length sent.now ≤ 512 }
-        requires small { place + length sent.now ≤ most_cells }
-        ensures answer { result ≡ append_answer (C.Reading.cells self.old.inner) (C.Reading.room self.old.inner) at (length sent.now) }
-        ensures inner { OnOk result (C.Reading.takes self.old.inner (run at (masked (sheet_flaws self.old) at place (map cell sent.now))) self.new.inner) }
+    // Sends cells to the end of a track that has room for them, with a zero wherever one is under a flaw.
+    fn send_part(&mut self, at: u8, sent: &[u8]) -> Result<(), Refusal>
+        requires part { length sent.now ≤ PART }
+        requires there { at < length (C.Reading.cells self.old.inner) }
+        requires fits { length (track (C.Reading.cells self.old.inner) at) + length sent.now ≤ C.Reading.room self.old.inner }
+        ensures answer { result ≡ Ok tt }
+        ensures inner { C.Reading.takes self.old.inner (run at (masked (sheet_flaws self.old) at (length (track (C.Reading.cells self.old.inner) at)) (map cell sent.now))) self.new.inner }
         ensures table { self.new.table ≡ self.old.table }
     {
+        let run = PlacedRun {
+            on: at,
+            place: track_length(&self.inner, at),
+            sent,
+        };
         let mut buffer = [0; PART];
-        let part = &mut buffer[0..sent.len()];
-        self.table.mask_into(at, place, sent, part);
+        let part = &mut buffer[..sent.len()];
+        self.table.mask_into(&run, part);
         self.inner.append(at, part)
     }
 
-    // Sends all of some cells on, part by part. The track ends at `place`, and has room for them.
-    fn send_masked(&mut self, at: u8, place: u32, sent: &[u8]) -> Result<(), Refusal>
+    // Sends all of some cells on, part by part, to the end of a track that has room for them.
+    fn send_masked(&mut self, at: u8, sent: &[u8]) -> Result<(), Refusal>
         requires there { at < length (C.Reading.cells self.old.inner) }
-        requires ends { place ≡ length (track (C.Reading.cells self.old.inner) at) }
         requires fits { length (track (C.Reading.cells self.old.inner) at) + length sent.now ≤ C.Reading.room self.old.inner }
         requires touched { Clean (sheet_flaws self.old) at (length (track (C.Reading.cells self.old.inner) at)) (length sent.now) → ⊥ }
         ensures answer { result ≡ Ok tt }
         ensures inner { Passes C.Reading.cells C.Reading.takes (sheet_flaws self.old) self.old.inner (run at (map cell sent.now)) self.new.inner }
         ensures table { self.new.table ≡ self.old.table }
     {
-        let mut done = 0;
-        while done < sent.len() {
-            let count = PART.min(sent.len() - done);
-            self.send_part(at, place + done as u32, &sent[done..done + count])?;
-            done += count;
+        for part in sent.chunks(PART) {
+            self.send_part(at, part)?;
         }
         Ok(())
     }

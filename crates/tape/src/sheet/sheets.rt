@@ -8,6 +8,7 @@ use crate::cartridge::{Reading, Recording};
 use crate::flaw::Flaw;
 use crate::refusal::Refusal;
 use crate::sheet::FlawSheet;
+use crate::sizes::Sizes;
 use crate::table::FlawTable;
 
 impl<C: Reading> FlawSheet<C> {
@@ -55,8 +56,7 @@ impl<C: Recording> FlawSheet<C> {
         ensures sheet { MatchResult result (λ _. (sheet_flaws self.new ≡ sheet_flaws self.old ++ flaw ∷ []) × (self.new.inner ≡ self.old.inner)) (λ _. self.new ≡ self.old) }
         ensures zeros { ZerosUnderFlaws C.Reading.cells C.Reading.takes }
     {
-        let tracks = self.inner.tracks();
-        let capacity = self.inner.capacity();
-        self.table.enter(flaw, tracks, capacity)
+        let sizes = Sizes::of(self.inner());
+        self.table.enter(flaw, sizes)
     }
 }

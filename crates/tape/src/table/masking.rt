@@ -1,51 +1,34 @@
 // What the flaws of a table cover.
-ghost use Rattle.std.specs.Prelude.{◌≡◌, ◌+◌, ◌≤◌, true, false, length};
-ghost use Rattle.tape.specs.Tape.{most_cells};
-ghost use Rattle.tape.specs.Flaws.{Clean, masked};
+ghost use Rattle.std.specs.Prelude.{◌≡◌, length};
+ghost use Rattle.std.specs.List.{list_any};
+ghost use Rattle.tape.specs.Flaws.{masked, meets};
 ghost use Rattle.tape.specs.FlawTables.{table_flaws};
 
-use crate::flaw::cell_number;
-use crate::stretch::{Stretch, stretch_holding};
+use crate::run::PlacedRun;
+use crate::stretch::stretch_holding;
 use crate::table::FlawTable;
 
 impl FlawTable {
-    // Whether one of some cells of a track is under a flaw.
-    pub(crate) fn touches(&self, at: u8, place: u32, count: usize) -> bool
-        requires { place + count ≤ most_cells }
-        ensures clean { result ≡ false → Clean (table_flaws self.now) at place count }
-        ensures touched { result ≡ true → Clean (table_flaws self.now) at place count → ⊥ }
+    // Whether one of the cells is under a flaw.
+    pub(crate) fn touches(&self, run: &PlacedRun) -> bool
+        ensures { result ≡ list_any (meets run.now.on run.now.place (length run.now.sent.now)) (table_flaws self.now) }
     {
-        let from = cell_number(at, place);
-        let to = from + count as u64;
-        for flaw in self.flaws() {
-            if from.max(flaw.first()) < to.min(flaw.end()) {
-                return true;
-            }
-        }
-        false
+        self.flaws().iter().any(|flaw| run.meets(flaw))
     }
 
-    // Makes a zero of each cell that is under a flaw.
-    pub(crate) fn mask(&self, at: u8, place: u32, cells: &mut [u8])
-        requires { place + length cells.old ≤ most_cells }
-        ensures { cells.new ≡ masked (table_flaws self.now) at place cells.old }
+    // Copies the cells, with a zero wherever one is under a flaw.
+    pub(crate) fn mask_into(&self, run: &PlacedRun, out: &mut [u8])
+        requires { length out.old ≡ length run.now.sent.now }
+        ensures { out.new ≡ masked (table_flaws self.now) run.now.on run.now.place run.now.sent.now }
     {
-        let from = cell_number(at, place);
-        for i in 0..cells.len() {
+        let from = run.first();
+        // Written by index, since of what `iter_mut` lends a proof would know no element.
+        for (i, cell) in run.sent.iter().enumerate() {
             let Some(_) = stretch_holding(self.flaws(), from + i as u64) else {
+                out[i] = *cell;
                 continue;
             };
-            cells[i] = 0;
+            out[i] = 0;
         }
-    }
-
-    // The same, into a buffer.
-    pub(crate) fn mask_into(&self, at: u8, place: u32, sent: &[u8], out: &mut [u8])
-        requires small { place + length sent.now ≤ most_cells }
-        requires same { length out.old ≡ length sent.now }
-        ensures { out.new ≡ masked (table_flaws self.now) at place sent.now }
-    {
-        out.copy_from_slice(sent);
-        self.mask(at, place, out);
     }
 }

@@ -1,6 +1,5 @@
-use Rattle.std.proofs.Common.{rules}
 use Rattle.tape.proofs.Promised.{zeros_under_flaws}
 use Rattle.tape.proofs.sheet.FlawSheet.enter.Goals as goal
 
-pub returns : goal.returns
-returns g c = record { answer = search rules; sheet = search rules; zeros = zeros_under_flaws g.C.Reading.cells g.C.Reading.takes }
+pub returns-clause-zeros : goal.returns-clause-zeros
+returns-clause-zeros g c = zeros_under_flaws g.C.Reading.cells g.C.Reading.takes

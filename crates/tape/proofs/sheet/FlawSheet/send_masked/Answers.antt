@@ -1,45 +1,45 @@
-use Rattle.std.proofs.Common.{◌≡◌, ℕ, ◌+◌, ◌-◌, List, map, length, take, drop, refl, ◌∙◌, subst, arith, length-drop}
-use Rattle.std.proofs.lemmas.List.{length-take-le}
+use Rattle.std.proofs.Common.{◌∙◌, [], map, length, refl, rules, subst, arith}
+use Rattle.std.specs.Slice.Iter.{chunks_rest}
+use Rattle.std.proofs.lemmas.List.{nil_from_length}
 use Rattle.tape.specs.Tape.{track, cell, run}
 use Rattle.tape.specs.Flaws.{masked}
 use Rattle.tape.specs.FlawTables.{table_flaws}
-use Rattle.tape.specs.declared.table.FlawTable.{FlawTable}
 use Rattle.tape.specs.Sheets.{sheet_flaws}
-use Rattle.tape.proofs.Masking.{so_far_more, so_far_added, so_far_room, so_far_all}
-use Rattle.tape.proofs.Replies.{not-refused}
+use Rattle.tape.specs.declared.table.FlawTable.{FlawTable}
+use Rattle.tape.proofs.Masking.{so_far_more, so_far_added, so_far_fits, so_far_all}
 use Rattle.tape.proofs.sheet.FlawSheet.send_masked.Goals as goal
 
-pub returns-in_err-send_part : goal.returns-in_err-send_part
-returns-in_err-send_part g c =
-    let f = c.loop-done.invariant.2 in
-    let m = c.loop-done.self.inner in
-    let part = take (c.loop-done.done + c.min-count.result - c.loop-done.done) (drop c.loop-done.done c.args.sent.now) in
-    let long : length part ≡ c.min-count.result = length-take-le (c.loop-done.done + c.min-count.result - c.loop-done.done) (drop c.loop-done.done c.args.sent.now) (omega (arith, length-drop c.loop-done.done c.args.sent.now)) ∙ omega arith in
-    let at = so_far_added g.C.Reading.takes (sheet_flaws c.args.self.now) c.args.at (length (track (g.C.Reading.cells c.args.self.now.inner) c.args.at)) c.args.sent.now c.args.self.now.inner g.C.Reading.cells g.met.C.Reading.grows c.loop-done.done m c.loop-done.invariant.0 f in
-    let room = so_far_room g.C.Reading.takes (sheet_flaws c.args.self.now) c.args.at (length (track (g.C.Reading.cells c.args.self.now.inner) c.args.at)) c.args.sent.now c.args.self.now.inner g.C.Reading.room g.met.C.Reading.keeps c.loop-done.done m f in
-    absurd (not-refused c.args.at (length (g.C.Reading.cells m)) (length (track (g.C.Reading.cells m) c.args.at) + length part) (g.C.Reading.room m) c.send_part.result _ _ c.in_err-send_part.field-0.0
-    (omega (arith, at.1, c.requires.there)) (omega (arith, at.0, c.requires.fits)) c.in_err-send_part.was c.send_part.ensures.answer)
+pub loop-part-init : goal.loop-part-init
+loop-part-init g c = (search rules, tt, search rules, refl, record { front = []; parted = search rules; runs = []; on_track = tt; together = refl; sends = refl })
 
-pub loop-done-preserved : goal.loop-done-preserved
-loop-done-preserved g c =
-    let count = c.min-count.result in
-    let done = c.loop-done.done in
+pub send_part-requires-clause-there : goal.send_part-requires-clause-there
+send_part-requires-clause-there g c =
     let s = c.args.self.now in
-    let m = c.loop-done.self.inner in
+    omega (arith, c.requires.there, (so_far_added g.C.Reading.cells g.C.Reading.takes g.met.C.Reading.grows (sheet_flaws s) c.args.at c.args.sent.now (chunks_rest c.loop-part.part-iterator) s.inner c.loop-part.self.inner c.loop-part.invariant.4).1)
+
+pub send_part-requires-clause-fits : goal.send_part-requires-clause-fits
+send_part-requires-clause-fits g c =
+    let s = c.args.self.now in
+    so_far_fits g.C.Reading.cells g.C.Reading.takes g.met.C.Reading.grows (sheet_flaws s) c.args.at c.args.sent.now (chunks_rest c.loop-part.part-iterator) s.inner c.loop-part.self.inner c.loop-part.invariant.4
+    c.in-Some.part.now (chunks_rest c.next.new.self) g.C.Reading.room g.met.C.Reading.keeps c.in-Some.ensures.steps.1.0 c.requires.fits
+
+pub loop-part-preserved : goal.loop-part-preserved
+loop-part-preserved g c =
+    let s = c.args.self.now in
+    let m = c.loop-part.self.inner in
     let e = c.send_part.new.self.inner in
-    let sent : List ℕ = c.args.sent.now in
-    let eq : done + count - done ≡ count = omega arith in
-    let k = c.in_ok-send_part.ensures.inner in
-    let k' = subst (λ (n : ℕ). g.C.Reading.takes m (run c.args.at (masked (table_flaws c.loop-done.self.table) c.args.at (c.args.place + done) (map cell (take n (drop done sent))))) e) eq k in
-    let k'' = subst (λ (t : FlawTable). g.C.Reading.takes m (run c.args.at (masked (table_flaws t) c.args.at (c.args.place + done) (map cell (take count (drop done sent))))) e) c.loop-done.invariant.1 k' in (
-      omega arith,
-      c.send_part.ensures.table ∙ c.loop-done.invariant.1,
-      so_far_more g.C.Reading.takes (sheet_flaws s) c.args.at (length (track (g.C.Reading.cells s.inner) c.args.at)) sent s.inner done count (c.args.place + done) m e (omega arith) (omega arith) c.loop-done.invariant.2 k'',
+    let part = c.in-Some.part.now in
+    let steps = c.in-Some.ensures.steps in
+    let same = c.loop-part.invariant.3 in
+    let takes = subst (λ (t : FlawTable). g.C.Reading.takes m (run c.args.at (masked (table_flaws t) c.args.at (length (track (g.C.Reading.cells m) c.args.at)) (map cell part))) e) same c.send_part.ensures.inner in (
+      search rules,
+      tt,
+      steps.0 ∙ c.loop-part.invariant.2,
+      c.send_part.ensures.table ∙ same,
+      so_far_more g.C.Reading.cells g.C.Reading.takes g.met.C.Reading.grows (sheet_flaws s) c.args.at c.args.sent.now (chunks_rest c.loop-part.part-iterator) s.inner m c.loop-part.invariant.4 part (chunks_rest c.next.new.self) e steps.1.0 takes,
     )
 
-pub returns : goal.returns
-returns g c = record {
-  answer = refl;
-  inner = so_far_all g.C.Reading.cells g.C.Reading.takes (sheet_flaws c.args.self.now) c.args.at c.args.sent.now c.args.self.now.inner c.loop-done.done c.loop-done.self.inner c.requires.there c.loop-done-test.false c.requires.touched c.loop-done.invariant.2;
-  table = c.loop-done.invariant.1;
-}
+pub returns-clause-inner : goal.returns-clause-inner
+returns-clause-inner g c =
+    let s = c.args.self.now in
+    so_far_all g.C.Reading.cells g.C.Reading.takes (sheet_flaws s) c.args.at c.args.sent.now (chunks_rest c.loop-part.part-iterator) s.inner c.loop-part.self.inner c.requires.there (nil_from_length _ c.in-None.ensures.steps.1.0) c.requires.touched c.loop-part.invariant.4
