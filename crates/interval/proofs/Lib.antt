@@ -1,4 +1,8 @@
+pub mod Copies
+pub mod Spelling
+pub mod GapReads
+pub mod IntervalTapes
 pub mod StrideSteps
 pub mod Unspoiling
-pub mod IntervalPuts
 pub mod IntervalGrowth
+pub mod IntervalPuts

@@ -1,7 +1,9 @@
 -- The places of the marks on a track.
-use Rattle.std.proofs.Common.{◌≡◌, ℕ, ◌+◌, ◌-◌, ◌*◌, ◌/◌, ◌<◌, ◌≤◌, inl, inr, add-mul, one-mul, arith}
+use Rattle.std.proofs.Common.{◌≡◌, ℕ, ◌+◌, ◌*◌, ◌/◌, ◌<◌, ◌≤◌, inl, inr, add-mul, one-mul, arith}
+use Rattle.std.specs.Int.{div_ceil}
 use Rattle.std.proofs.lemmas.Nat.{mul-le, div-add-mod', mod_below}
 use Rattle.std.proofs.lemmas.Bool.{cases_lt}
+use Rattle.std.proofs.lemmas.Grind.{div_ceil_times}
 use Rattle.interval.specs.Marks.{mark_stride}
 
 -- a row of s places stands before those of a later one
@@ -11,10 +13,6 @@ row_before s v t h = omega (arith, mul-le (v + 1) s t s (omega arith) (omega ari
 pub stride_some : (c : ℕ) → 0 < mark_stride c
 unfolding mark_stride
 stride_some c = omega arith
-
-pub stride_small : (c : ℕ) → mark_stride c ≤ c + 1
-unfolding mark_stride
-stride_small c = omega arith
 
 pub stride_covers : (c : ℕ) → c < 511 * mark_stride c
 unfolding mark_stride
@@ -28,14 +26,7 @@ mark-inside c k h = elim (cases_lt k 511) [
 ]
 
 module _ (s : ℕ) (some : 0 < s) where
-  -- the first mark at or after a place
-  pub ahead_at : (l : ℕ) → l ≤ (l + s - 1) / s * s
-  ahead_at l = omega (arith, div-add-mod' (l + s - 1) s, mod_below (l + s - 1) s some)
-
-  pub ahead_near : (l : ℕ) → (l + s - 1) / s * s < l + s
-  ahead_near l = omega (arith, div-add-mod' (l + s - 1) s)
-
-  -- the last one at or before it
+  -- the last mark at or before a place
   pub behind_at : (l : ℕ) → l / s * s ≤ l
   behind_at l = omega (arith, div-add-mod' l s)
 
@@ -43,18 +34,20 @@ module _ (s : ℕ) (some : 0 < s) where
   behind_near l = omega (arith, div-add-mod' l s, mod_below l s some)
 
   -- a track that grew from l to m cells, no further than to its next mark, came to no mark but the one ahead of m
-  pub come_to : (l m k : ℕ) → m ≤ l / s * s + s → k * s ≤ m → (k ≡ (m + s - 1) / s → ⊥) → k * s ≤ l
-  come_to l m k h come ne = elim (cases_lt k ((m + s - 1) / s)) [
-    | inl low ↦ elim (cases_lt (l / s) k) [
-      | inl high ↦ absurd (omega (arith, row_before s (l / s) k high, row_before s k ((m + s - 1) / s) low, ahead_near m))
-      | inr same ↦ omega (arith, mul-le k s (l / s) s same (omega arith), behind_at l)
-    ]
-    | inr high ↦ absurd (omega (arith, row_before s ((m + s - 1) / s) k (omega arith), ahead_at m))
-  ]
+  pub come_to : (l m k : ℕ) → m ≤ l / s * s + s → k * s ≤ m → (k ≡ div_ceil m s → ⊥) → k * s ≤ l
+  come_to l m k h come ne =
+      let ahead = div_ceil_times m s some in
+      elim (cases_lt k (div_ceil m s)) [
+        | inl low ↦ elim (cases_lt (l / s) k) [
+          | inl high ↦ absurd (omega (arith, row_before s (l / s) k high, row_before s k (div_ceil m s) low, ahead.1))
+          | inr same ↦ omega (arith, mul-le k s (l / s) s same (omega arith), behind_at l)
+        ]
+        | inr high ↦ absurd (omega (arith, row_before s (div_ceil m s) k (omega arith), ahead.0))
+      ]
 
 -- the mark ahead of a place within the capacity is one of the track's
-pub ahead_inside : (c l : ℕ) → l ≤ c → (l + mark_stride c - 1) / mark_stride c < 512
-ahead_inside c l h = elim (cases_lt ((l + mark_stride c - 1) / mark_stride c) 512) [
+pub ahead_inside : (c l : ℕ) → l ≤ c → div_ceil l (mark_stride c) < 512
+ahead_inside c l h = elim (cases_lt (div_ceil l (mark_stride c)) 512) [
   | inl low ↦ low
-  | inr high ↦ absurd (omega (arith, mul-le 512 (mark_stride c) ((l + mark_stride c - 1) / mark_stride c) (mark_stride c) high (omega arith), ahead_near (mark_stride c) (stride_some c) l, stride_covers c))
+  | inr high ↦ absurd (omega (arith, mul-le 512 (mark_stride c) (div_ceil l (mark_stride c)) (mark_stride c) high (omega arith), (div_ceil_times l (mark_stride c) (stride_some c)).1, stride_covers c))
 ]

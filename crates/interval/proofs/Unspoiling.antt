@@ -1,6 +1,6 @@
 -- Runs of cells to one track of a medium that spoils nothing, one after the other.
-use Rattle.std.proofs.Common.{◌≡◌, ℕ, ◌+◌, ◌<◌, List, [], ◌++◌, map, length, take, drop, set, sym, ap, ◌∙◌, length-set, take-add}
-use Rattle.std.proofs.lemmas.List.{append-nil, append_assoc, map-append, set-set, set-get_or}
+use Rattle.std.proofs.Common.{ℕ, ◌<◌, List, [], ◌++◌, length, set, sym, ap, ◌∙◌}
+use Rattle.std.proofs.lemmas.List.{append-nil, append_assoc, set-set, set-get_or}
 use Rattle.tape.specs.Tape.{Tape, track, run}
 use Rattle.tape.specs.Stores.{Unspoiled}
 use Rattle.tape.proofs.Tapes.{unspoiled_track}
@@ -16,10 +16,3 @@ unspoiled_then t xs ys a b c f g = record {
       ∙ ap (λ (x : List ℕ). set a t (x ++ ys)) (unspoiled_track (run t xs) a b f)
       ∙ ap (set a t) (append_assoc (track a t) xs ys);
 }
-
-pub unspoiled_length : (t : ℕ) (xs : List ℕ) (a b : Tape) → Unspoiled (run t xs) a b → length b ≡ length a
-unspoiled_length t xs a b f = ap length f.is ∙ length-set a t (track a t ++ xs)
-
--- the first cells sent, and the next ones
-pub map-take_then : (f : ℕ → ℕ) (i n : ℕ) (xs : List ℕ) → map f (take (i + n) xs) ≡ map f (take i xs) ++ map f (take n (drop i xs))
-map-take_then f i n xs = ap (map f) (take-add i n xs) ∙ map-append f (take i xs) (take n (drop i xs))

@@ -2,14 +2,14 @@
 use Rattle.std.specs.Prelude.{◌≡◌, ℕ, ◌+◌, ◌<◌, ◌≤◌, cond, List, ◌++◌, length, take, ◌==◌, slice_index}
 use Rattle.std.specs.List.{flat_map}
 use Rattle.interval.specs.Intervals.{gap, interval_cells}
+use Rattle.interval.specs.declared.interval.track.Fill.{Fill}
 
--- a track that had n bytes and z zeros, with cells added: it has m bytes and y zeros then
-pub record Spelled (n z : ℕ) (old cells new : List ℕ) (m y : ℕ) : Type 0 where
-  pub are : interval_cells new m y ≡ interval_cells old n z ++ cells
-  pub kept : take n new ≡ take n old
-  pub more : n ≤ m
-  pub short : y < 255
-  pub few : m + y ≤ n + z + length cells
+-- a track that was filled as far as f, with cells added: it is filled as far as g then
+pub record Spelled (f : Fill) (old cells new : List ℕ) (g : Fill) : Type 0 where
+  pub are : interval_cells new g ≡ interval_cells old f ++ cells
+  pub kept : take f.used new ≡ take f.used old
+  pub more : f.used ≤ g.used
+  pub few : g.used + g.zeros ≤ f.used + f.zeros + length cells
 
 -- cells of a track from `place` on, with a one put at the place p of the track
 abbrev pub WithOne : ℕ → ℕ → List ℕ → List ℕ → Type 0

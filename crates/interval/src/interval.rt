@@ -1,33 +1,31 @@
 // The interval store: the zeros before each one, a byte for each one.
-ghost use Rattle.std.specs.Prelude.{◌≡◌, ℕ, ◌*◌, ◌≤◌, length, drop, vec_len, slice_index};
-ghost use Rattle.interval.specs.Intervals.{Stands};
+ghost use Rattle.std.specs.Prelude.{◌≡◌, ℕ, ◌*◌, ◌≤◌, length, drop, vec_len};
+ghost use Rattle.tape.specs.Tape.{most_tracks};
+ghost use Rattle.interval.specs.Intervals.{Stands, state_of};
 ghost use Rattle.interval.specs.Marks.{Noted, OfTrack};
+
+use tape::{MOST_TRACKS, Sizes};
 
 mod adding;
 mod copying;
 mod index;
 mod store;
+mod track;
 
 use index::Index;
+use track::TrackState;
 
 // A track's bytes stand one after the other from the track's number times the capacity on: it has at most as many bytes as cells.
 #[derive(Drop)]
 pub struct IntervalStore {
     memory: Vec<u8>,
-    tracks: u8,
-    capacity: u32,
-    // The cells of each track.
-    lengths: [u32; 9],
-    // The bytes in use on each track, and the zeros after them.
-    used: [u32; 9],
-    zeros: [u8; 9],
+    sizes: Sizes,
+    // All of them stand, so that the sizes alone tell how many tracks there are.
+    states: [TrackState; MOST_TRACKS],
     index: Index,
-    ghost few: { tracks ≤ 9 },
-    ghost small: { capacity ≤ 100000000 },
-    ghost empty: { capacity ≤ tracks * 100000000 },
-    ghost enough: { tracks * capacity ≤ vec_len memory },
-    ghost nine: { (length lengths ≡ 9) × (length used ≡ 9) × (length zeros ≡ 9) },
-    ghost rule: { (t : ℕ) → Stands (drop (t * capacity) memory.items) capacity (slice_index lengths t) (slice_index used t) (slice_index zeros t) },
-    ghost noted: { (t : ℕ) → Noted (drop (t * capacity) memory.items) capacity (slice_index lengths t) index.used index.zeros t },
-    ghost held: { (t : ℕ) → OfTrack (slice_index used t) index.used t },
+    ghost enough: { sizes.tracks * sizes.capacity ≤ vec_len memory },
+    ghost nine: { length states ≡ most_tracks },
+    ghost rule: { (t : ℕ) → Stands (drop (t * sizes.capacity) memory.items) sizes.capacity (state_of states t) },
+    ghost noted: { (t : ℕ) → Noted (drop (t * sizes.capacity) memory.items) sizes.capacity (state_of states t).cells index.fills t },
+    ghost held: { (t : ℕ) → OfTrack (state_of states t).fill.used index.fills t },
 }

@@ -1,3 +1,3 @@
 pub mod Odd
+pub mod OddLaws
 pub mod OddTapes
-pub mod Thinning

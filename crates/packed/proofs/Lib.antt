@@ -1,2 +1,7 @@
-pub mod Words
+pub mod BitsOfBytes
+pub mod Computed
 pub mod Gets
+pub mod PackedTapes
+pub mod Parts
+pub mod Puts
+pub mod Words

@@ -8,7 +8,7 @@ use Rattle.std.proofs.lemmas.List.FromFn.{get_or-map-range_with_len}
 use Rattle.std.specs.List.{range_with_len, AllByRecursion}
 use Rattle.tape.specs.Tape.{cell}
 use Rattle.packed.specs.Packed.{bit}
-use Rattle.packed.specs.Computed.{same_below, same_below_both}
+use Rattle.packed.proofs.Computed.{same_below, same_below_both}
 
 abbrev pub Byte : ℕ → Type 0
 Byte b = b < 256
@@ -151,8 +151,9 @@ unfolding bit spread
 spread_bit = same_below_both (λ b i. get_or (bytes_of (spread b)) i 0) (λ b i. bit b i) 256 8 refl
 
 -- a byte as eight cells
-pub unpacked_eight : (b : ℕ) → b < 256 → bytes_of (bit_and ((bit_and (b * 0x0101_0101_0101_0101) 0x0102_0408_1020_4080 + 0x7F7F_7F7F_7F7F_7F7F) / 128) 0x0101_0101_0101_0101) ≡ map (bit b) (range_with_len 0 8)
+pub unpacked_eight : (w b : ℕ) → w ≡ b → b < 256 → bytes_of (bit_and ((bit_and (w * 0x0101_0101_0101_0101) 0x0102_0408_1020_4080 + 0x7F7F_7F7F_7F7F_7F7F) / 128) 0x0101_0101_0101_0101) ≡ map (bit b) (range_with_len 0 8)
 unfolding spread
-unpacked_eight b h =
-    same_lists (bytes_of (spread b)) (map (bit b) (range_with_len 0 8)) refl
+unpacked_eight w b e h =
+    ap (λ (v : ℕ). bytes_of (spread v)) e
+    ∙ same_lists (bytes_of (spread b)) (map (bit b) (range_with_len 0 8)) refl
     (λ k d l. get_or_default (bytes_of (spread b)) k d 0 l ∙ (spread_bit b k h l ∙ sym (get_or-map-range_with_len (bit b) 0 8 k k d l (zero-add k))))

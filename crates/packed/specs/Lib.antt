@@ -1,7 +1,4 @@
 pub mod Packed
 pub mod Packing
+pub mod PackedLaws
 pub mod PackedStores
-pub mod PackedTapes
-pub mod BitsOfBytes
-pub mod Computed
-pub mod Puts

@@ -1,9 +1,9 @@
 // The packed store: eight cells a byte, the high bit first.
 ghost use Rattle.std.specs.Prelude.{◌≡◌, ℕ, ◌*◌, ◌≤◌, length, vec_len, slice_index};
 ghost use Rattle.packed.specs.Packed.{packed_bytes};
-ghost use Rattle.tape.specs.Tape.{most_tracks, most_cells};
+ghost use Rattle.tape.specs.Tape.{most_tracks};
 
-use tape::MOST_TRACKS;
+use tape::{MOST_TRACKS, Sizes};
 
 mod bytes;
 mod store;
@@ -12,13 +12,10 @@ mod store;
 #[derive(Drop)]
 pub struct PackedStore {
     memory: Vec<u8>,
-    tracks: u8,
-    capacity: u32,
+    sizes: Sizes,
+    // How many cells of each track are in use. All nine stand, so that the sizes alone tell how many tracks there are.
     used: [u32; MOST_TRACKS],
-    ghost few: { tracks ≤ most_tracks },
-    ghost small: { capacity ≤ most_cells },
-    ghost empty: { capacity ≤ tracks * most_cells },
-    ghost enough: { tracks * packed_bytes capacity ≤ vec_len memory },
+    ghost enough: { sizes.tracks * packed_bytes sizes.capacity ≤ vec_len memory },
     ghost nine: { length used ≡ most_tracks },
-    ghost inside: { (t : ℕ) → slice_index used t ≤ capacity },
+    ghost inside: { (t : ℕ) → slice_index used t ≤ sizes.capacity },
 }

@@ -1,42 +1,48 @@
 // Cells copied out of the bytes of an interval store.
 ghost use Rattle.std.specs.Prelude.{◌≡◌, ◌+◌, ◌<◌, ◌≤◌, length, take, replicate};
 ghost use Rattle.std.specs.List.{flat_map};
+ghost use Rattle.tape.specs.Tape.{most_cells};
 ghost use Rattle.interval.specs.Intervals.{gap};
 ghost use Rattle.interval.specs.Gaps.{WithOne, Copied};
 
-// How many cells a few bytes stand for. A sum of 16 bits is quick.
+use crate::interval::track::ZEROS_ALONE;
+
+// So many bytes are passed over together.
+const STRETCH: usize = 256;
+
+// How many cells a few bytes stand for. The sum of 16 bits is for speed: the bar of interval_read.
 fn count_cells(bytes: &[u8]) -> u16
-    requires { length bytes.now ≤ 256 }
+    requires { length bytes.now ≤ STRETCH }
     ensures { result ≡ length (flat_map gap bytes.now) }
 {
-    let mut cells = 0;
-    for byte in bytes {
-        cells += byte.saturating_add(1) as u16;
-    }
-    cells
+    bytes
+        .iter()
+        .map(|byte| u16::from(byte.saturating_add(1)))
+        .sum()
 }
 
 // Passes over bytes that stand for cells before a place: how many bytes, and how many cells.
 fn pass_bytes(bytes: &[u8], place: usize) -> (usize, usize)
-    requires { place ≤ 100000000 }
     ensures bytes { result.0 ≤ length bytes.now }
     ensures cells { result.1 ≡ length (flat_map gap (take result.0 bytes.now)) }
     ensures before { result.1 ≤ place }
 {
+    // Counted along: the loop may end early, and both counts are wanted after it.
     let mut passed = 0;
     let mut cells = 0;
-    while bytes.len() - passed >= 256 {
-        let next = cells + count_cells(&bytes[passed..passed + 256]) as usize;
-        if next > place {
+    for stretch in bytes.chunks_exact(STRETCH) {
+        let more = usize::from(count_cells(stretch));
+        if more > place - cells {
             break;
         }
-        passed += 256;
-        cells = next;
+        passed += STRETCH;
+        cells += more;
     }
     (passed, cells)
 }
 
 // Sets a one at a place of the track, unless that is before the cells from `place` on.
+// The place and the buffer stay two arguments: a struct of both would lend the buffer, and its contracts speak of the loan.
 fn set_one(out: &mut [u8], place: usize, one: usize)
     requires { one < place + length out.old }
     ensures { WithOne place one out.old out.new }
@@ -48,20 +54,20 @@ fn set_one(out: &mut [u8], place: usize, one: usize)
 
 // Sets the ones of some bytes among the cells from `place` on, which are zeros.
 fn set_ones(bytes: &[u8], place: usize, out: &mut [u8])
-    requires small { length bytes.now ≤ 100000000 }
-    requires within { place + length out.old ≤ 100000000 }
+    requires small { length bytes.now ≤ most_cells }
+    requires within { place + length out.old ≤ most_cells }
     requires zeros { out.old ≡ replicate (length out.old) 0 }
     ensures { Copied place bytes.now out.old out.new }
 {
     let end = place + out.len();
     let mut begin = 0;
     for byte in bytes {
-        let one = begin + *byte as usize;
+        let one = begin + usize::from(*byte);
         if one >= end {
             break;
         }
         begin = one;
-        if *byte < 255 {
+        if *byte < ZEROS_ALONE {
             set_one(out, place, one);
             begin += 1;
         }
@@ -70,8 +76,8 @@ fn set_ones(bytes: &[u8], place: usize, out: &mut [u8])
 
 // Copies the cells of some bytes, followed by zeros, from `place` on.
 pub(crate) fn copy_cells(bytes: &[u8], place: usize, out: &mut [u8])
-    requires small { length bytes.now ≤ 100000000 }
-    requires within { place + length out.old ≤ 100000000 }
+    requires small { length bytes.now ≤ most_cells }
+    requires within { place + length out.old ≤ most_cells }
     ensures { Copied place bytes.now out.old out.new }
 {
     out.fill(0);

@@ -1,56 +1,74 @@
 // The index of an interval store: where each track stood when it came to a mark.
-ghost use Rattle.std.specs.Prelude.{◌≡◌, ℕ, ◌+◌, ◌-◌, ◌*◌, ◌/◌, ◌<◌, ◌≤◌, length, slice_index, slice_set};
-ghost use Rattle.interval.specs.Marks.{mark_stride, mark_of};
+ghost use Rattle.std.specs.Prelude.{◌≡◌, ℕ, ◌+◌, ◌-◌, ◌*◌, ◌/◌, ◌<◌, ◌≤◌, length, slice_set};
+ghost use Rattle.std.specs.Int.{div_ceil};
+ghost use Rattle.tape.specs.Tape.{most_tracks};
+ghost use Rattle.interval.specs.Intervals.{no_fill};
+ghost use Rattle.interval.specs.Marks.{mark_stride, mark_of, fill_at};
+ghost use Rattle.interval.specs.declared.interval.index.TheConstants.{ALL_MARKS};
 
-// The marks of a track, and of nine tracks, one after the other.
+use crate::interval::track::Fill;
+use tape::MOST_TRACKS;
+
+// The marks of a track, and of all tracks, one after the other.
 const MARKS: usize = 512;
 
-const ALL_MARKS: usize = 4608;
+const ALL_MARKS: usize = MOST_TRACKS * MARKS;
+
+// The number of a mark among those of all tracks.
+#[derive(Clone, Copy)]
+pub struct Mark {
+    pub number: usize,
+    ghost within: { number < ALL_MARKS },
+}
+
+impl Mark {
+    // The mark k of a track.
+    fn new(at: u8, k: usize) -> Mark
+        requires there { at < most_tracks }
+        requires some { k < MARKS }
+        ensures { result.number ≡ mark_of at k }
+    {
+        Mark {
+            number: usize::from(at) * MARKS + k,
+        }
+    }
+}
 
 #[derive(Drop)]
 pub struct Index {
-    // The bytes in use at each mark, and the zeros after them.
-    used: [u32; ALL_MARKS],
-    zeros: [u8; ALL_MARKS],
-    ghost long: { (length used ≡ 4608) × (length zeros ≡ 4608) },
-    ghost short: { (k : ℕ) → slice_index zeros k < 255 },
+    // How each track was filled at its marks.
+    fills: [Fill; ALL_MARKS],
+    ghost long: { length fills ≡ ALL_MARKS },
 }
 
 impl Index {
     pub(crate) fn new() -> Index
-        ensures used { (k : ℕ) → slice_index result.used k ≡ 0 }
-        ensures zeros { (k : ℕ) → slice_index result.zeros k ≡ 0 }
+        ensures { (k : ℕ) → fill_at result.fills k ≡ no_fill }
     {
         Index {
-            used: [0; ALL_MARKS],
-            zeros: [0; ALL_MARKS],
+            fills: [Fill::none(); ALL_MARKS],
         }
     }
 
     // Notes where a track stands.
-    pub(crate) fn note(&mut self, mark: usize, used: u32, zeros: u8)
-        requires within { mark < 4608 }
-        requires short { zeros < 255 }
-        ensures used { self.new.used ≡ slice_set self.old.used mark used }
-        ensures zeros { self.new.zeros ≡ slice_set self.old.zeros mark zeros }
+    pub(crate) fn note(&mut self, mark: Mark, fill: Fill)
+        ensures { self.new.fills ≡ slice_set self.old.fills mark.number fill }
     {
-        self.used[mark] = used;
-        self.zeros[mark] = zeros;
+        self.fills[mark.number] = fill;
     }
 
     // Where a track stood.
-    pub(crate) fn noted(&self, mark: usize) -> (usize, usize)
-        requires { mark < 4608 }
-        ensures used { result.0 ≡ slice_index self.now.used mark }
-        ensures zeros { result.1 ≡ slice_index self.now.zeros mark }
+    pub(crate) fn noted(&self, mark: Mark) -> Fill
+        ensures { result ≡ fill_at self.now.fills mark.number }
     {
-        (self.used[mark] as usize, self.zeros[mark] as usize)
+        self.fills[mark.number]
     }
 }
 
 // The cells from one mark of a track to the next.
 fn stride(capacity: u32) -> usize
-    ensures { result ≡ mark_stride capacity }
+    ensures value { result ≡ mark_stride capacity }
+    ensures some { 0 < result }
 {
     capacity as usize / (MARKS - 1) + 1
 }
@@ -65,25 +83,22 @@ pub(crate) fn to_next_mark(cells: usize, capacity: u32) -> usize
 }
 
 // The mark at a place of a track, or the first one after it.
-pub(crate) fn mark_ahead(at: u8, place: usize, capacity: u32) -> usize
-    requires there { at < 9 }
+pub(crate) fn mark_ahead(at: u8, place: usize, capacity: u32) -> Mark
+    requires there { at < most_tracks }
     requires inside { place ≤ capacity }
-    ensures value { result ≡ mark_of at ((place + mark_stride capacity - 1) / mark_stride capacity) }
-    ensures within { result < 4608 }
+    ensures { result.number ≡ mark_of at (div_ceil place (mark_stride capacity)) }
 {
-    let stride = stride(capacity);
-    at as usize * MARKS + (place + stride - 1) / stride
+    Mark::new(at, place.div_ceil(stride(capacity)))
 }
 
 // The mark at a place of a track, or the last one before it, and the cells to that mark.
-pub(crate) fn mark_behind(at: u8, place: usize, capacity: u32) -> (usize, usize)
-    requires there { at < 9 }
+pub(crate) fn mark_behind(at: u8, place: usize, capacity: u32) -> (Mark, usize)
+    requires there { at < most_tracks }
     requires inside { place ≤ capacity }
-    ensures mark { result.0 ≡ mark_of at (place / mark_stride capacity) }
+    ensures mark { result.0.number ≡ mark_of at (place / mark_stride capacity) }
     ensures cells { result.1 ≡ place / mark_stride capacity * mark_stride capacity }
-    ensures within { result.0 < 4608 }
 {
     let stride = stride(capacity);
     let k = place / stride;
-    (at as usize * MARKS + k, k * stride)
+    (Mark::new(at, k), k * stride)
 }

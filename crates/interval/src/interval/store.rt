@@ -1,31 +1,26 @@
 // An interval store as a cartridge.
-ghost use Rattle.std.specs.Prelude.{◌≡◌, ◌+◌, ◌*◌, ◌/◌, ◌<◌, ◌≤◌, [], ◌++◌, map, length, take, drop, if◌then◌else◌, Ok, Err, vec_len, MatchResult, OnOk, nat_le, nat_lt, slice_index};
+ghost use Rattle.std.specs.Prelude.{◌≡◌, ◌+◌, ◌*◌, ◌/◌, ◌<◌, ◌≤◌, [], ◌++◌, map, length, take, drop, if◌then◌else◌, Ok, Err, vec_len, MatchResult, OnOk};
 ghost use Rattle.std.specs.List.{flat_map};
+ghost use Rattle.tape.specs.Calls.{append_answer};
 ghost use Rattle.tape.specs.Promises.{ReadsBack};
 ghost use Rattle.tape.specs.Tape.{track, blank, cell, run};
-ghost use Rattle.interval.specs.Intervals.{gap};
+ghost use Rattle.tape.specs.declared.refusal.Refusal.TheVariants.{BadStore};
+ghost use Rattle.tape.proofs.Tapes.{unspoiled_longer};
+ghost use Rattle.interval.specs.Intervals.{gap, state_of};
 ghost use Rattle.interval.specs.Marks.{mark_stride};
 ghost use Rattle.interval.specs.IntervalStores.{interval_fits, interval_store_tape, interval_store_room, interval_store_takes};
-ghost use Rattle.tape.specs.declared.refusal.Refusal.TheVariants.{NoTrack, BadStore, TrackFull};
-ghost use Rattle.std.proofs.Common.{arith, rules};
-ghost use Rattle.interval.specs.IntervalTapes.{interval_length, interval_inside, interval_binary};
-ghost use Rattle.tape.proofs.Tapes.{unspoiled_longer};
+ghost use Rattle.interval.specs.IntervalLaws.{interval_few, interval_empty, interval_inside, interval_binary};
 
 use crate::interval::IntervalStore;
 use crate::interval::adding::add_cells;
 use crate::interval::copying::copy_cells;
 use crate::interval::index::{Index, mark_ahead, mark_behind, to_next_mark};
-use tape::{Reading, Recording, Refusal, sizes_allowed};
-
-// Whether a store of these sizes can be made over so many bytes.
-fn enough(tracks: u8, capacity: u32, bytes: usize) -> bool
-    ensures { result ≡ interval_fits tracks capacity bytes }
-{
-    sizes_allowed(tracks, capacity) && tracks as usize * capacity as usize <= bytes
-}
+use crate::interval::track::{Fill, TrackState, ZEROS_ALONE};
+use tape::{MOST_TRACKS, Reading, Recording, Refusal, Sizes, check_append, check_read, track_row};
 
 impl IntervalStore {
-    // A blank store over the memory handed over, whatever that holds. A refused one has no tracks and no capacity.
+    // A blank store over the memory handed over, whatever that holds.
+    // A refused one is handed out too, by a rule of the project: a cartridge with no tracks and no capacity.
     pub fn new(memory: Vec<u8>, tracks: u8, capacity: u32) -> (IntervalStore, Result<(), Refusal>)
         ensures answer { result.1 ≡ (if interval_fits tracks capacity (vec_len memory) then Ok tt else Err BadStore) }
         ensures cells { interval_store_tape result.0 ≡ (if interval_fits tracks capacity (vec_len memory) then blank tracks else []) }
@@ -33,103 +28,87 @@ impl IntervalStore {
         ensures bytes { result.0.memory ≡ memory }
         ensures back { ReadsBack interval_store_tape interval_store_takes }
     {
-        let lengths = [0; 9];
-        let used = [0; 9];
-        let zeros = [0; 9];
-        let index = Index::new();
-        if enough(tracks, capacity, memory.len()) {
-            (
-                IntervalStore {
-                    memory,
-                    tracks,
-                    capacity,
-                    lengths,
-                    used,
-                    zeros,
-                    index,
-                },
-                Ok(()),
-            )
-        } else {
-            (
-                IntervalStore {
-                    memory,
-                    tracks: 0,
-                    capacity: 0,
-                    lengths,
-                    used,
-                    zeros,
-                    index,
-                },
-                Err(Refusal::BadStore),
-            )
-        }
+        let (sizes, answer) = Sizes::for_store(tracks, capacity, capacity, memory.len());
+        let store = IntervalStore {
+            memory,
+            sizes,
+            states: [TrackState::none(); MOST_TRACKS],
+            index: Index::new(),
+        };
+        (store, answer)
     }
 
     // Hands the memory back.
     pub fn into_memory(self) -> Vec<u8>
         ensures { result ≡ self.memory }
     {
-        let memory = self.memory;
+        let IntervalStore { memory, .. } = self;
         memory
     }
 
-    // Where the bytes of a track begin.
-    fn base(&self, at: u8) -> usize
-        ensures { result ≡ at * self.now.capacity }
+    // Where a track stands. That the store has the track is a fact of two values, so each contract states it.
+    fn state(&self, at: u8) -> TrackState
+        requires { at < self.now.sizes.tracks }
+        ensures { result ≡ state_of self.now.states at }
     {
-        at as usize * self.capacity as usize
+        self.states[usize::from(at)]
+    }
+
+    // The bytes in use on a track.
+    fn bytes(&self, at: u8) -> &[u8]
+        requires { at < self.now.sizes.tracks }
+        ensures bytes { result.now ≡ take (state_of self.now.states at).fill.used (drop (at * self.now.sizes.capacity) self.now.memory.items) }
+        ensures long { length result.now ≡ (state_of self.now.states at).fill.used }
+    {
+        let used = self.state(at).fill.used;
+        &self.memory[track_row(at, self.sizes.capacity)][..used]
     }
 
     // Adds cells to a track that has room for them, at most up to its next mark.
     fn put_part(&mut self, at: u8, sent: &[u8])
-        requires there { at < self.old.tracks }
-        requires fits { slice_index self.old.lengths at + length sent.now ≤ self.old.capacity }
-        requires step { slice_index self.old.lengths at + length sent.now ≤ slice_index self.old.lengths at / mark_stride self.old.capacity * mark_stride self.old.capacity + mark_stride self.old.capacity }
+        requires there { at < self.old.sizes.tracks }
+        requires fits { (state_of self.old.states at).cells + length sent.now ≤ self.old.sizes.capacity }
+        requires step { (state_of self.old.states at).cells + length sent.now ≤ (state_of self.old.states at).cells / mark_stride self.old.sizes.capacity * mark_stride self.old.sizes.capacity + mark_stride self.old.sizes.capacity }
         ensures takes { interval_store_takes self.old (run at (map cell sent.now)) self.new }
-        ensures longer { slice_index self.new.lengths at ≡ slice_index self.old.lengths at + length sent.now }
+        ensures longer { (state_of self.new.states at).cells ≡ (state_of self.old.states at).cells + length sent.now }
+        ensures sizes { self.new.sizes ≡ self.old.sizes }
     {
-        let t = at as usize;
-        let base = self.base(at);
-        let end = base + self.capacity as usize;
-        let used = self.used[t] as usize;
-        let zeros = self.zeros[t] as usize;
-        let memory = self.memory.as_mut_slice();
-        let (used, zeros) = add_cells(&mut memory[base..end], used, zeros, sent);
-        let length = self.lengths[t] as usize + sent.len();
-        let mark = mark_ahead(at, length, self.capacity);
-        self.used[t] = used as u32;
-        self.zeros[t] = zeros as u8;
-        self.lengths[t] = length as u32;
-        self.index.note(mark, used as u32, zeros as u8);
+        let TrackState { cells, fill } = self.state(at);
+        let row = track_row(at, self.sizes.capacity);
+        let fill = add_cells(&mut self.memory[row], fill, sent);
+        let cells = cells + sent.len() as u32;
+        let mark = mark_ahead(at, cells as usize, self.sizes.capacity);
+        self.states[usize::from(at)] = TrackState { cells, fill };
+        self.index.note(mark, fill);
     }
 
     // Adds cells to a track that has room for them.
     fn put(&mut self, at: u8, sent: &[u8])
-        requires there { at < self.old.tracks }
-        requires fits { slice_index self.old.lengths at + length sent.now ≤ self.old.capacity }
+        requires there { at < self.old.sizes.tracks }
+        requires fits { (state_of self.old.states at).cells + length sent.now ≤ self.old.sizes.capacity }
         ensures { interval_store_takes self.old (run at (map cell sent.now)) self.new }
     {
-        let mut i = 0;
-        while i < sent.len() {
-            let length = self.lengths[at as usize] as usize;
-            let n = to_next_mark(length, self.capacity).min(sent.len() - i);
-            self.put_part(at, &sent[i..i + n]);
-            i += n;
+        let mut left = sent;
+        while !left.is_empty() {
+            let cells = self.state(at).cells as usize;
+            let n = to_next_mark(cells, self.sizes.capacity).min(left.len());
+            let (part, rest) = left.split_at(n);
+            self.put_part(at, part);
+            left = rest;
         }
     }
 
     // Where to start for a place: how many bytes to leave out, and the cells that they stand for.
     fn start(&self, at: u8, place: usize) -> (usize, usize)
-        requires there { at < self.now.tracks }
-        requires inside { place ≤ slice_index self.now.lengths at }
-        ensures used { result.0 ≤ slice_index self.now.used at }
-        ensures begins { result.1 ≡ length (flat_map gap (take result.0 (drop (at * self.now.capacity) self.now.memory.items))) }
+        requires there { at < self.now.sizes.tracks }
+        requires inside { place ≤ (state_of self.now.states at).cells }
+        ensures used { result.0 ≤ (state_of self.now.states at).fill.used }
+        ensures begins { result.1 ≡ length (flat_map gap (take result.0 (drop (at * self.now.sizes.capacity) self.now.memory.items))) }
         ensures before { result.1 ≤ place }
-        ensures near { place < result.1 + mark_stride self.now.capacity + 255 }
+        ensures near { place < result.1 + mark_stride self.now.sizes.capacity + ZEROS_ALONE }
     {
-        let (mark, cells) = mark_behind(at, place, self.capacity);
-        let (used, zeros) = self.index.noted(mark);
+        let (mark, cells) = mark_behind(at, place, self.sizes.capacity);
+        let Fill { used, zeros } = self.index.noted(mark);
         (used, cells - zeros)
     }
 }
@@ -141,60 +120,51 @@ impl Reading for IntervalStore {
 
     ghost takes = { interval_store_takes };
 
-    ghost few = { λ s. omega (arith, interval_length s.memory.items s.tracks s.capacity s.used s.zeros) };
+    ghost few = { interval_few };
 
-    ghost small = { first_of (Prim.search rules, Prim.grind (arith, Self.row.coded.inj)) };
+    ghost small = { λ s. s.sizes.small };
 
-    ghost empty = { λ s e. omega (arith, interval_length s.memory.items s.tracks s.capacity s.used s.zeros) };
+    ghost empty = { interval_empty };
 
-    ghost inside = { λ s. interval_inside s.memory.items s.tracks s.capacity s.used s.zeros (λ t. let r = s.rule t in omega (arith, r.0, r.3)) };
+    ghost inside = { interval_inside };
 
-    ghost binary = { λ s. interval_binary s.memory.items s.tracks s.capacity s.used s.zeros };
+    ghost binary = { interval_binary };
 
-    ghost grows = { λ s r e h. unspoiled_longer r _ _ h.0 };
+    ghost grows = { λ s r e k. unspoiled_longer r (interval_store_tape s) (interval_store_tape e) k.0 };
 
-    ghost keeps = { first_of (Prim.search rules, Prim.grind (arith, Self.row.coded.inj)) };
+    ghost keeps = { λ s r e k. k.1 };
 
     fn tracks(&self) -> u8 {
-        self.tracks
+        self.sizes.tracks
     }
 
     fn length(&self, at: u8) -> Result<u32, Refusal> {
-        if at >= self.tracks {
+        if at >= self.sizes.tracks {
             return Err(Refusal::NoTrack);
         }
-        Ok(self.lengths[at as usize])
+        Ok(self.state(at).cells)
     }
 
     fn read(&self, at: u8, place: u32, out: &mut [u8]) -> Result<(), Refusal> {
-        let length = self.length(at)? as usize;
+        check_read(self.length(at)?, place, out.len())?;
         let place = place as usize;
-        if place > length || out.len() > length - place {
-            return Err(Refusal::PastEnd);
-        }
-        let base = self.base(at);
         let (from, cells) = self.start(at, place);
-        let end = base + self.used[at as usize] as usize;
-        let memory = self.memory.as_slice();
-        copy_cells(&memory[base + from..end], place - cells, out);
+        copy_cells(&self.bytes(at)[from..], place - cells, out);
         Ok(())
     }
 }
 
 impl Recording for IntervalStore {
     fn capacity(&self) -> u32 {
-        self.capacity
+        self.sizes.capacity
     }
 
     fn append(&mut self, at: u8, sent: &[u8]) -> Result<(), Refusal>
-        ensures answer { result ≡ (if nat_lt at (length (interval_store_tape self.old)) then (if nat_le (length (track (interval_store_tape self.old) at) + length sent.now) (interval_store_room self.old) then Ok tt else Err TrackFull) else Err NoTrack) }
+        ensures answer { result ≡ append_answer (interval_store_tape self.old) (interval_store_room self.old) at (length sent.now) }
         ensures tape { MatchResult result (λ _. interval_store_takes self.old (run at (map cell sent.now)) self.new) (λ _. self.new ≡ self.old) }
         ensures unspoiled { OnOk result (track (interval_store_tape self.new) at ≡ track (interval_store_tape self.old) at ++ map cell sent.now) }
     {
-        let length = self.length(at)? as usize;
-        if sent.len() > self.capacity as usize - length {
-            return Err(Refusal::TrackFull);
-        }
+        check_append(self.length(at)?, sent.len(), self.sizes.capacity)?;
         self.put(at, sent);
         Ok(())
     }

@@ -1,66 +1,41 @@
-use Rattle.std.proofs.Common.{◌+◌, ◌-◌, refl, ◌∙◌, arith, length-set}
-use Rattle.std.proofs.lemmas.List.{length-map, get_or-set_same}
+use Rattle.std.proofs.Common.{ℕ, ◌+◌, length, refl, sym, ◌∙◌, ap, arith, length-set}
+use Rattle.std.proofs.lemmas.List.{length-map}
 use Rattle.tape.specs.Tape.{cell}
-use Rattle.interval.proofs.StrideSteps.{row_before}
-use Rattle.interval.specs.IntervalTapes.{interval_length}
-use Rattle.interval.proofs.IntervalPuts.{put_tape, put_rule, put_noted, put_held}
+use Rattle.interval.specs.Intervals.{state_of}
+use Rattle.interval.specs.declared.interval.track.TrackState.{TrackState}
+use Rattle.interval.specs.IntervalLaws.{store_length}
+use Rattle.interval.proofs.IntervalGrowth.{grew_tape, grew_rule, grew_noted, grew_held}
+use Rattle.interval.proofs.IntervalPuts.{put_grew}
 use Rattle.interval.proofs.interval.IntervalStore.put_part.Goals as goal
-
-pub slice_bounds-add_cells-end : goal.slice_bounds-add_cells-end
-slice_bounds-add_cells-end c =
-    let s = c.args.self.now in
-    omega (arith, row_before s.capacity c.args.at s.tracks c.requires.there)
-
-pub mark_ahead-mark-requires : goal.mark_ahead-mark-requires
-mark_ahead-mark-requires c = record { there = omega arith; inside = c.requires.fits }
-
-pub overflow_cast-self : goal.overflow_cast-self
-overflow_cast-self c =
-    let r = c.args.self.now.rule c.args.at in
-    omega (arith, r.0, r.2, c.add_cells-used.ensures.few, length-map c.args.sent.now cell)
-
-pub overflow_cast-used-2 : goal.overflow_cast-used-2
-overflow_cast-used-2 c =
-    let r = c.args.self.now.rule c.args.at in
-    omega (arith, r.0, r.2, c.add_cells-used.ensures.few, length-map c.args.sent.now cell)
-
-pub note-requires : goal.note-requires
-note-requires c = record { within = c.mark_ahead-mark.ensures.within; short = c.add_cells-used.ensures.short }
 
 pub invariant_of-self : goal.invariant_of-self
 invariant_of-self c =
     let s = c.args.self.now in
     let t = c.args.at in
-    let n = s.nine in
-    let base = c.base-base.result in record {
-      few = s.few;
-      small = s.small;
-      empty = s.empty;
+    let was = ap (λ (r : TrackState). r.cells + length c.args.sent.now) c.state-cells.ensures in
+    let more = was ∙ sym (ap (λ (n : ℕ). (state_of s.states t).cells + n) (length-map c.args.sent.now cell)) in
+    let grown = put_grew s t c.track_row-row.result.start _ c.state-cells.result c.add_cells-fill.result c.deref_mut.result.now c.add_cells-fill.new.bytes c.args.sent.now
+    c.requires.there c.state-cells.ensures c.requires.fits c.track_row-row.ensures.start (omega arith) c.deref_mut.ensures.value c.add_cells-fill.ensures c.add_cells-fill.auto.bytes in
+    record {
       enough = s.enough;
-      nine = (length-set s.lengths t _ ∙ n.0, length-set s.used t _ ∙ n.1, length-set s.zeros t _ ∙ n.2);
-      rule = put_rule s t base (base + s.capacity - base) _ _ _ c.as_mut_slice-memory.result.now c.add_cells-used.new.bytes c.args.sent.now
-          c.requires.there refl c.requires.fits c.base-base.ensures (omega arith) c.as_mut_slice-memory.ensures.value c.add_cells-used.ensures c.add_cells-used.auto.bytes;
-      noted = put_noted s t base (base + s.capacity - base) _ _ _ c.as_mut_slice-memory.result.now c.add_cells-used.new.bytes c.args.sent.now
-          c.requires.there refl c.requires.fits c.base-base.ensures (omega arith) c.as_mut_slice-memory.ensures.value c.add_cells-used.ensures c.add_cells-used.auto.bytes
-          _ _ _ c.note.ensures.used c.note.ensures.zeros c.requires.step c.mark_ahead-mark.ensures.value;
-      held = put_held s t base (base + s.capacity - base) _ _ _ c.as_mut_slice-memory.result.now c.add_cells-used.new.bytes c.args.sent.now
-          c.requires.there refl c.requires.fits c.base-base.ensures (omega arith) c.as_mut_slice-memory.ensures.value c.add_cells-used.ensures c.add_cells-used.auto.bytes
-          _ _ _ c.note.ensures.used c.note.ensures.zeros c.requires.step c.mark_ahead-mark.ensures.value;
+      nine = length-set s.states c.from.result _ ∙ s.nine;
+      rule = grew_rule s _ t c.from.result _ _ c.requires.there c.from.ensures more (omega (arith, was, c.requires.fits)) grown;
+      noted = grew_noted s _ t c.from.result _ _ c.requires.there c.from.ensures more (omega (arith, was, c.requires.fits)) grown
+          c.mark_ahead-mark.result.number _ c.note.ensures (omega (arith, was, c.requires.step)) c.mark_ahead-mark.ensures;
+      held = grew_held s _ t c.from.result _ _ c.requires.there c.from.ensures more (omega (arith, was, c.requires.fits)) grown
+          c.mark_ahead-mark.result.number _ c.note.ensures (omega (arith, was, c.requires.step)) c.mark_ahead-mark.ensures;
     }
 
-pub returns : goal.returns
-returns c =
+pub returns-clause-takes : goal.returns-clause-takes
+returns-clause-takes c =
     let s = c.args.self.now in
-    let t = c.args.at in
-    let base = c.base-base.result in
-    record {
-      takes = (
-        record {
-          there = omega (arith, c.requires.there, interval_length s.memory.items s.tracks s.capacity s.used s.zeros);
-          is = put_tape s t base (base + s.capacity - base) _ _ _ c.as_mut_slice-memory.result.now c.add_cells-used.new.bytes c.args.sent.now
-              c.requires.there refl c.requires.fits c.base-base.ensures (omega arith) c.as_mut_slice-memory.ensures.value c.add_cells-used.ensures c.add_cells-used.auto.bytes;
-        },
-        refl,
-      );
-      longer = get_or-set_same s.lengths t _ 0 (omega (arith, s.nine.0));
-    }
+    let was = ap (λ (r : TrackState). r.cells + length c.args.sent.now) c.state-cells.ensures in
+    let more = was ∙ sym (ap (λ (n : ℕ). (state_of s.states c.args.at).cells + n) (length-map c.args.sent.now cell)) in
+    let grown = put_grew s c.args.at c.track_row-row.result.start _ c.state-cells.result c.add_cells-fill.result c.deref_mut.result.now c.add_cells-fill.new.bytes c.args.sent.now
+    c.requires.there c.state-cells.ensures c.requires.fits c.track_row-row.ensures.start (omega arith) c.deref_mut.ensures.value c.add_cells-fill.ensures c.add_cells-fill.auto.bytes in (
+      record {
+        there = omega (arith, c.requires.there, store_length s);
+        is = grew_tape s _ c.args.at c.from.result _ _ c.requires.there c.from.ensures more (omega (arith, was, c.requires.fits)) grown;
+      },
+      refl,
+    )

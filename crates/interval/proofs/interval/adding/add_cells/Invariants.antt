@@ -4,4 +4,4 @@ use Rattle.interval.specs.Gaps.{Spelled}
 use Rattle.interval.proofs.interval.adding.add_cells.Given as goal
 
 abbrev pub invariant-loop-one : goal.invariant-loop-one
-invariant-loop-one l = Spelled l.used l.zeros l.initial.bytes (map cell (take l.one-index l.sent)) l.bytes l.at.0 l.at.1
+invariant-loop-one l = Spelled l.initial.fill l.initial.bytes (map cell (take l.one-index l.sent)) l.bytes l.fill

@@ -1,14 +1,17 @@
-use Rattle.std.proofs.Common.{◌≡◌, ℕ, ◌+◌, ◌-◌, length, take, drop, ap, arith}
-use Rattle.std.specs.List.{flat_map}
-use Rattle.interval.specs.Intervals.{gap}
-use Rattle.interval.specs.GapReads.{length_then}
+use Rattle.std.proofs.Common.{sym, ◌∙◌, arith}
+use Rattle.std.specs.Slice.Iter.{chunks_exact_rest}
+use Rattle.interval.proofs.GapReads.{part_passed}
 use Rattle.interval.proofs.interval.copying.pass_bytes.Goals as goal
 
-pub loop-passed-preserved : goal.loop-passed-preserved
-loop-passed-preserved c =
-    let i = c.loop-passed.invariant in
-    let p = c.loop-passed.passed in
-    let b = c.args.bytes.now in
-    let wide : p + 256 - p ≡ 256 = omega arith in
-    let part = ap (λ (k : ℕ). length (flat_map gap (take k (drop p b)))) wide in
-    (omega arith, omega (arith, i.1, c.count_cells.ensures, part, length_then p 256 b), c.if-next-place.false)
+pub loop-stretch-preserved : goal.loop-stretch-preserved
+loop-stretch-preserved c =
+    let i = c.loop-stretch.invariant in
+    let s = c.in-Some.ensures.steps in
+    let part = part_passed c.args.bytes.now c.in-Some.stretch.now (chunks_exact_rest c.next.new.self) c.loop-stretch.passed 256 i.within (sym i.rest ∙ s.1.0) (s.1.1 ∙ i.size) in
+    record {
+      rest = part.rest_is;
+      size = s.0 ∙ i.size;
+      within = part.within;
+      counted = omega (arith, i.counted, part.cells);
+      before = omega (arith, i.before);
+    }

@@ -1,5 +1,5 @@
 use Rattle.std.proofs.Common.{length}
-use Rattle.interval.specs.GapReads.{SoFar}
+use Rattle.interval.proofs.GapReads.{SoFar}
 use Rattle.interval.proofs.interval.copying.set_ones.Given as goal
 
 abbrev pub invariant-loop-byte : goal.invariant-loop-byte

@@ -1,7 +1,7 @@
-use Rattle.std.proofs.Common.{refl}
+use Rattle.std.proofs.Common.{rules}
 use Rattle.interval.specs.Marks.{mark_stride}
 use Rattle.interval.proofs.interval.index.stride.Goals as goal
 
 pub returns : goal.returns
 unfolding mark_stride
-returns c = refl
+returns c = search rules

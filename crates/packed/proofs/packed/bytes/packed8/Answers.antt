@@ -6,5 +6,5 @@ use Rattle.packed.proofs.packed.bytes.packed8.Goals as goal
 pub returns : goal.returns
 returns c old = record {
   before = λ i h. absurd (omega arith);
-  these = λ i h. ap (bit _) (zero-add i) ∙ packed_eight (λ k. get_or c.args.cells.now k 0) (λ k. let f = c.type_inv.cells k in omega arith) c.from_le_bytes-word.result c.from_le_bytes-word.ensures i (omega arith);
+  these = λ i h. ap (bit _) (zero-add i) ∙ packed_eight (λ k. get_or c.args.cells.now k 0) c.fits-cells c.from_le_bytes-word.result c.from_le_bytes-word.ensures i (omega arith);
 }

@@ -3,4 +3,4 @@ use Rattle.packed.proofs.Words.{unpacked_eight}
 use Rattle.packed.proofs.packed.bytes.unpacked8.Goals as goal
 
 pub returns : goal.returns
-returns c = c.to_le_bytes.ensures ∙ unpacked_eight c.args.byte (omega arith)
+returns c = c.to_le_bytes.ensures ∙ unpacked_eight c.from-copies.result c.args.byte c.from-copies.ensures (omega arith)

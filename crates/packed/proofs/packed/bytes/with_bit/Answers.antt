@@ -1,6 +1,6 @@
 use Rattle.std.proofs.Common.{cond, sym, ap, ◌∙◌}
 use Rattle.std.proofs.lemmas.Bool.{eq-eqb, ne_eqb}
-use Rattle.packed.specs.BitsOfBytes.{cleared_bit, cleared_others, set_bit, set_others}
+use Rattle.packed.proofs.BitsOfBytes.{cleared_bit, cleared_others, set_bit, set_others}
 use Rattle.packed.proofs.packed.bytes.with_bit.Goals as goal
 
 pub returns-then-sent-eq0 : goal.returns-then-sent-eq0

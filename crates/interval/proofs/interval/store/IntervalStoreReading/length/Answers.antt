@@ -1,18 +1,13 @@
-use Rattle.std.proofs.Common.{ltb, length, Ok, sym, ap, ◌∙◌, arith}
+use Rattle.std.proofs.Common.{Ok, ap, ◌∙◌, sym, arith}
 use Rattle.std.proofs.lemmas.Bool.{cond-true, cond-false, lt-ltb, le-ltb}
-use Rattle.interval.specs.IntervalStores.{interval_store_tape}
-use Rattle.interval.specs.IntervalTapes.{interval_length, interval_track}
+use Rattle.interval.proofs.IntervalTapes.{store_track_length}
+use Rattle.interval.specs.IntervalLaws.{store_length}
 use Rattle.interval.proofs.interval.store.IntervalStoreReading.length.Goals as goal
 
 pub returns-then-at-self : goal.returns-then-at-self
-returns-then-at-self c =
-    let s = c.args.self.now in
-    let n = interval_length s.memory.items s.tracks s.capacity s.used s.zeros in
-    sym (cond-false (ltb c.args.at (length (interval_store_tape s))) _ _ (le-ltb c.args.at (length (interval_store_tape s)) (omega arith)))
+returns-then-at-self c = sym (cond-false _ _ _ (le-ltb c.args.at _ (omega (arith, store_length c.args.self.now))))
 
 pub returns : goal.returns
 returns c =
     let s = c.args.self.now in
-    let n = interval_length s.memory.items s.tracks s.capacity s.used s.zeros in
-    let told = ap length (interval_track s.memory.items s.tracks s.capacity s.used s.zeros c.args.at c.if-at-self.false) ∙ (s.rule c.args.at).3 in
-    ap Ok (sym told) ∙ sym (cond-true (ltb c.args.at (length (interval_store_tape s))) _ _ (lt-ltb c.args.at (length (interval_store_tape s)) (omega arith)))
+    ap Ok (ap (λ x. x.cells) c.state.ensures ∙ sym (store_track_length s c.args.at c.if-at-self.false)) ∙ sym (cond-true _ _ _ (lt-ltb c.args.at _ (omega (arith, store_length s))))

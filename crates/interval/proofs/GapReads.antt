@@ -1,12 +1,14 @@
 -- The cells at the places of a track, read byte after byte.
-use Rattle.std.specs.Prelude.{◌≡◌, ℕ, ◌+◌, ◌-◌, ◌*◌, ◌<◌, ◌≤◌, min, cond, List, [], ◌∷◌, ◌++◌, length, take, drop, replicate, ◌==◌, slice_index, slice_set, refl}
+use Rattle.std.specs.Prelude.{◌≡◌, ℕ, suc, ◌+◌, ◌-◌, ◌*◌, ◌<◌, ◌≤◌, min, cond, List, [], ◌∷◌, ◌++◌, length, take, drop, replicate, ◌==◌, slice_index, refl}
 use Rattle.std.proofs.Common.{sym, ap, ◌∙◌, inl, inr, arith, take-add}
-use Rattle.std.specs.List.{flat_map}
-use Rattle.std.proofs.lemmas.List.{append_assoc, take-append-drop, take_all, length-append, length-replicate, take_more, flat_map_more, get_or_past, get_or-replicate, get_or_append_left, get_or-append_right, get_or-set_same, get_or-set_other, get_or_at}
-use Rattle.std.proofs.lemmas.Bool.{eq-eqb, ne_eqb, cases_lt, cases_eq, cases_order}
+use Rattle.std.specs.List.{flat_map, sum_by}
+use Rattle.std.proofs.lemmas.List.Sums.{sum_by-cons}
+use Rattle.std.proofs.lemmas.List.Concat.{flat_map-append}
+use Rattle.std.proofs.lemmas.List.{take_at, drop_at, drop-drop, length-drop, take_rest, append_assoc, take-append-drop, take_all, length-append, length-replicate, take_more, flat_map_more, get_or_past, get_or-replicate, get_or_append_left, get_or-append_right, get_or_at}
+use Rattle.std.proofs.lemmas.Bool.{eq-eqb, ne_eqb, cases_lt, cases_order}
 use Rattle.interval.specs.Intervals.{gap}
-use Rattle.interval.specs.Gaps.{WithOne}
-use Rattle.interval.specs.Spelling.{gap_one, gap_full}
+use Rattle.interval.specs.Gaps.{WithOne, Copied}
+use Rattle.interval.proofs.Spelling.{gap_one, gap_full}
 
 -- zeros at the end change no cell: past the end a cell is read as 0
 pub zeros_at : (xs : List ℕ) (z p : ℕ) → slice_index (xs ++ replicate z 0) p ≡ slice_index xs p
@@ -46,30 +48,32 @@ length_gap_one xs b h = omega (arith, length-append xs (gap b), ap length (gap_o
 pub length_gap_full : (xs : List ℕ) (b : ℕ) → b ≡ 255 → length (xs ++ gap b) ≡ length xs + b
 length_gap_full xs b h = omega (arith, length-append xs (gap b), ap length (gap_full b h), length-replicate {A = ℕ} b 0)
 
-pub joined_append : (xs ys : List ℕ) → flat_map gap (xs ++ ys) ≡ flat_map gap xs ++ flat_map gap ys
-joined_append [] ys = refl
-joined_append (x ∷ xs) ys = ap (λ (r : List ℕ). gap x ++ r) (joined_append xs ys) ∙ sym (append_assoc (gap x) (flat_map gap xs) (flat_map gap ys))
-
 pub bytes_split : (i : ℕ) (b : List ℕ) → flat_map gap b ≡ flat_map gap (take i b) ++ flat_map gap (drop i b)
-bytes_split i b = ap (flat_map gap) (sym (take-append-drop i b)) ∙ joined_append (take i b) (drop i b)
+bytes_split i b = ap (flat_map gap) (sym (take-append-drop i b)) ∙ flat_map-append gap (take i b) (drop i b)
 
 pub bytes_more : (i : ℕ) (b : List ℕ) → i < length b → flat_map gap (take (i + 1) b) ≡ flat_map gap (take i b) ++ gap (slice_index b i)
 bytes_more i b h = ap (flat_map gap) (take_more b i 0 h) ∙ sym (flat_map_more gap [] (take i b) (slice_index b i))
 
--- the cells of the first bytes, and of the next ones
-pub length_then : (i n : ℕ) (b : List ℕ) → length (flat_map gap (take (i + n) b)) ≡ length (flat_map gap (take i b)) + length (flat_map gap (take n (drop i b)))
-length_then i n b =
-    ap (λ (x : List ℕ). length (flat_map gap x)) (take-add i n b) ∙ ap length (joined_append (take i b) (take n (drop i b))) ∙ length-append (flat_map gap (take i b)) (flat_map gap (take n (drop i b)))
+-- a part of n bytes taken off those that are left from p on
+pub record PartPassed (b : List ℕ) (p n : ℕ) (part rest : List ℕ) : Type 0 where
+  pub rest_is : rest ≡ drop (p + n) b
+  pub within : p + n ≤ length b
+  pub cells : length (flat_map gap (take (p + n) b)) ≡ length (flat_map gap (take p b)) + length (flat_map gap part)
+
+pub part_passed : (b part rest : List ℕ) (p n : ℕ) → p ≤ length b → drop p b ≡ part ++ rest → length part ≡ n → PartPassed b p n part rest
+part_passed b part rest p n h e l =
+    let taken : take n (drop p b) ≡ part = ap (take n) e ∙ take_at part rest n l in
+    record {
+      rest_is = sym (drop_at part rest n l) ∙ ap (drop n) (sym e) ∙ drop-drop n p b;
+      within = omega (arith, ap length e, length-append part rest, length-drop p b);
+      cells =
+          ap (λ (x : List ℕ). length (flat_map gap x)) (take-add p n b) ∙ ap length (flat_map-append gap (take p b) (take n (drop p b)))
+          ∙ length-append (flat_map gap (take p b)) (flat_map gap (take n (drop p b))) ∙ ap (λ (x : List ℕ). length (flat_map gap (take p b)) + length (flat_map gap x)) taken;
+    }
 
 -- a cell among those of the first bytes
 pub front_at : (i p : ℕ) (b : List ℕ) → p < length (flat_map gap (take i b)) → slice_index (flat_map gap b) p ≡ slice_index (flat_map gap (take i b)) p
 front_at i p b h = ap (λ (xs : List ℕ). slice_index xs p) (bytes_split i b) ∙ get_or_append_left (flat_map gap (take i b)) (flat_map gap (drop i b)) 0 p h
-
-pub with_one_at : (place p : ℕ) (out : List ℕ) → place ≤ p → p - place < length out → WithOne place p out (slice_set out (p - place) 1)
-with_one_at place p out h l k q = elim (cases_eq k (p - place)) [
-  | inl e ↦ ap (λ (j : ℕ). slice_index (slice_set out (p - place) 1) j) e ∙ get_or-set_same out (p - place) 1 0 l ∙ sym (ap (λ t. cond t 1 (slice_index out k)) (eq-eqb (place + k) p (omega arith)))
-  | inr e ↦ get_or-set_other out (p - place) k 1 0 e ∙ sym (ap (λ t. cond t 1 (slice_index out k)) (ne_eqb (place + k) p (omega arith)))
-]
 
 -- the ones of the first i bytes are marked: these stand for `begin` cells, and out has what they give from `place` on
 pub record SoFar (bytes : List ℕ) (place i begin n : ℕ) (out : List ℕ) : Type 0 where
@@ -127,11 +131,20 @@ set_none bytes place n m out e = record { long = refl; small = omega arith; cell
 pub back_at : (i p k : ℕ) (b : List ℕ) → k ≡ length (flat_map gap (take i b)) → k ≤ p → slice_index (flat_map gap b) p ≡ slice_index (flat_map gap (drop i b)) (p - k)
 back_at i p k b e h = ap (λ (xs : List ℕ). slice_index xs p) (bytes_split i b) ∙ get_or-append_right (flat_map gap (take i b)) (flat_map gap (drop i b)) k p 0 (sym e) h
 
+-- a read that leaves out the first bytes
+pub copied_from : (i n place : ℕ) (b old new : List ℕ) → n ≡ length (flat_map gap (take i b)) → n ≤ place → Copied (place - n) (take (length b - i) (drop i b)) old new → Copied place b old new
+copied_from i n place b old new e h f k l =
+    let at : place - n + k ≡ place + k - n = omega arith in
+    f k l ∙ ap (λ (x : List ℕ). slice_index (flat_map gap x) (place - n + k)) (take_rest b i) ∙ ap (λ (p : ℕ). slice_index (flat_map gap (drop i b)) p) at
+    ∙ sym (back_at i (place + k) n b e (omega arith))
+
 -- the cells of a byte are counted by one more than the byte, at most 255
-pub length_byte : (i : ℕ) (b : List ℕ) → i < length b → slice_index b i < 256 → length (flat_map gap (take (i + 1) b)) ≡ length (flat_map gap (take i b)) + min (slice_index b i + 1) 255
-length_byte i b h byte =
-    let more = ap length (bytes_more i b h) in
-    elim (cases_lt (slice_index b i) 255) [
-      | inl s ↦ omega (arith, more, length_gap_one (flat_map gap (take i b)) (slice_index b i) s)
-      | inr s ↦ omega (arith, more, length_gap_full (flat_map gap (take i b)) (slice_index b i) (omega arith))
-    ]
+length-gap : (b : ℕ) → b < 256 → length (gap b) ≡ min (b + 1) 255
+length-gap b byte = elim (cases_lt b 255) [
+  | inl s ↦ omega (arith, length_gap_one [] b s)
+  | inr s ↦ omega (arith, length_gap_full [] b (omega arith))
+]
+
+pub count_is : (b : List ℕ) → ((k : ℕ) → slice_index b k < 256) → sum_by (λ x. min (x + 1) 255) b ≡ length (flat_map gap b)
+count_is [] byte = refl
+count_is (x ∷ b) byte = omega (arith, sum_by-cons (λ (x : ℕ). min (x + 1) 255) x b, length-append (gap x) (flat_map gap b), length-gap x (byte 0), count_is b (λ k. byte (suc k)))

@@ -5,11 +5,8 @@ use Rattle.std.specs.Int.Bits.{bit_and, bit_or, and_zero_r, or_zero_r}
 use Rattle.std.proofs.lemmas.Nat.{and_shr, and_mod, or_shr, or_mod, and_mask}
 use Rattle.std.proofs.lemmas.Bool.{eq-eqb, ne_eqb}
 use Rattle.packed.specs.Packed.{bit}
-use Rattle.packed.specs.Computed.{same_below_both}
-
-pub bit_small : (b j : ℕ) → bit b j < 2
-unfolding bit
-bit_small b j = omega arith
+use Rattle.packed.specs.PackedLaws.{bit_small}
+use Rattle.packed.proofs.Computed.{same_below_both}
 
 pub bit-and : (a b j : ℕ) → bit (bit_and a b) j ≡ bit_and (bit a j) (bit b j)
 unfolding bit
