@@ -1,16 +1,19 @@
 -- A replay by next after next, from a rewind to its end.
 use Rattle.std.proofs.Common.{◌≡◌, suc, ◌+◌, ◌<◌, ◌≤◌, Bool, false, List, [], ◌∷◌, ◌++◌, length, None, Ok, Err, sym, ap, ◌∙◌, subst, arith}
-use Rattle.qic24.specs.Copy.{Numbered}
+use Rattle.qic24.specs.Copy.{Numbered, held}
+use Rattle.qic24.specs.declared.item.Item.{Item}
 use Rattle.tape.specs.Tape.{Tape}
-use Rattle.replay.specs.Answered.{number_after}
-use Rattle.replay.specs.Copies.{body_cells, OfCartridge, place_on, CopyAt}
+use Rattle.replay.specs.Answered.{found_by, goes_on, number_after}
+use Rattle.replay.specs.Copies.{body_cells, OfCartridge, TapePlace, place_on, CopyAt, placed}
 use Rattle.replay.specs.Replay.{ReplayState, UnlocatedNumber, ReplayProgress}
 use Rattle.replay.specs.Scan.{OpeningAt, openings_from}
 use Rattle.replay.specs.Seeking.{found_item, found_end, found_beyond, ReplayCursor, next_found, cursor_after, tape_replay}
+use Rattle.replay.specs.declared.found.Found.{Found}
+use Rattle.replay.specs.declared.found.Found.TheVariants as found
 use Rattle.replay.specs.Finding.{Finds, FindsItem}
 use Rattle.replay.proofs.FoundThings.{next_finds}
 use Rattle.replay.proofs.Replaying.{awaits, Tells, seek-tells, after-item, ReplaysFrom, replays_from_item, replays_to_end, replays_to_beyond}
-use Rattle.replay.proofs.TapeOpenings.{GoesOn, right-here, further}
+use Rattle.replay.proofs.TapeOpenings.{goes_fewer}
 
 -- at this cursor a replay of the tape goes on
 pub record GoesOnAt (c : Tape) (k : ReplayCursor) : Type 0 where
@@ -19,13 +22,19 @@ pub record GoesOnAt (c : Tape) (k : ReplayCursor) : Type 0 where
   pub least : 1 ≤ k.expected
   pub most : k.expected ≤ 1048576
 
-goes_fewer : (o : OpeningAt) (rest os : List OpeningAt) → GoesOn o rest os → length rest < length os
-goes_fewer o rest [] g = elim g [ ]
-goes_fewer o rest (x ∷ os) right-here = omega arith
-goes_fewer o rest (x ∷ os) (further g) = omega (arith, goes_fewer o rest os g)
+-- what next answers, in the words of the definitions
+module _ (c : Tape) (k : ReplayCursor) (x : Found) (m : found_by (Ok x) ≡ next_found c k) where
+  pub finds-item : (p : TapePlace) (i : Item) (k' : ReplayCursor) → x ≡ found.Item p i k' → found_item (placed p (held i)) ≡ next_found c k
+  finds-item p i k' is = ap (λ (z : Found). found_by (Ok z)) (sym is) ∙ m
+
+  pub moves-item : (p : TapePlace) (i : Item) (k' : ReplayCursor) → x ≡ found.Item p i k' → goes_on k (Ok x) ≡ cursor_after k (next_found c k) → k' ≡ cursor_after k (next_found c k)
+  moves-item p i k' is a = ap (λ (z : Found). goes_on k (Ok z)) (sym is) ∙ a
+
+  pub finds-end : (passed : Bool) → x ≡ found.End passed → found_end passed ≡ next_found c k
+  finds-end passed is = ap (λ (z : Found). found_by (Ok z)) (sym is) ∙ m
 
 module _ (c : Tape) (h : OfCartridge c) (k k' : ReplayCursor) (f : CopyAt) (e : found_item f ≡ next_found c k) (a : k' ≡ cursor_after k (next_found c k)) where
-  is-after : record { expected = suc k.expected; from = place_on f.place.on (f.place.at + body_cells) } ≡ k'
+  pub is-after : record { expected = suc k.expected; from = place_on f.place.on (f.place.at + body_cells) } ≡ k'
   is-after = sym (a ∙ ap (cursor_after k) (sym e))
 
   -- after an item it goes on, and fewer openings are left

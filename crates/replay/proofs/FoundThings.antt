@@ -171,9 +171,6 @@ at-or-after-before p a b (inr h) (inl k) = inl (omega arith)
 at-or-after-before p a b (inr h) (inr k) = inr (h.0 ∙ k.0, omega arith)
 
 module _ (c : Tape) (h : OfCartridge c) (p : TapePlace) where
-  abbrev all_from : List OpeningAt
-  all_from = openings_from c p
-
   unsound-each : (v : UnsoundOpening) → In (opening_of v.place (Err v.cause)) (openings_from c p) → UnsoundOn c v × AtOrAfter p v.place
   unfolding read_here
   unsound-each v i = let w = listed-each c p (opening_of v.place (Err v.cause)) i in (record { opens = w.opens; cause = sym w.reads }, w.past)

@@ -1,5 +1,5 @@
 -- What a part of a track, read from a cartridge, tells of the track.
-use Rattle.std.proofs.Common.{◌≡◌, ℕ, zero, suc, ◌+◌, ◌-◌, ◌*◌, ◌<◌, ◌≤◌, min, cond, ltb, leb, List, [], ◌∷◌, map, length, take, drop, Ok, Err, Result, sym, refl, ap, ◌∙◌, ⊎_elim, arith, length-drop, length-take}
+use Rattle.std.proofs.Common.{◌≡◌, ℕ, zero, suc, ◌+◌, ◌-◌, ◌*◌, ◌<◌, ◌≤◌, min, cond, ltb, leb, List, [], ◌∷◌, map, length, take, drop, Ok, Err, Result, sym, refl, ap, ◌∙◌, ⊎_elim, arith, length-take}
 use Rattle.std.specs.List.{AllByRecursion}
 use Rattle.std.proofs.ByRecursion.{All-take, All-drop}
 use Rattle.std.proofs.lemmas.List.{get_or_past, take_all, take-take, drop-take, drop-drop}
@@ -7,7 +7,7 @@ use Rattle.std.proofs.lemmas.Bool.{cases_lt, cond-true, cond-false, lt-ltb, le-l
 use Rattle.qic24.specs.Cells.{number_of}
 use Rattle.qic24.specs.Decode.{decoded, by_groups, groups, first_fault}
 use Rattle.qic24.specs.Opening.{Opens}
-use Rattle.tape.specs.Calls.{length_answer, read_answer}
+use Rattle.tape.specs.Calls.{read_answer}
 use Rattle.tape.specs.Tape.{Tape, track, Cell, cell}
 use Rattle.tape.specs.declared.refusal.Refusal.{Refusal}
 use Rattle.tape.specs.declared.refusal.Refusal.TheVariants.{NoTrack, PastEnd}
@@ -16,14 +16,6 @@ use Rattle.replay.specs.Scan.{read_here}
 -- there are no cells on a track that is not there
 pub gone_empty : (c : Tape) (t : ℕ) → length c ≤ t → length (track c t) ≡ 0
 gone_empty c t h = ap length (get_or_past c t [] h)
-
-pub length-refused : (c : Tape) (t : ℕ) (e : Refusal) → Err e ≡ length_answer c t → 0 ≡ length (track c t)
-length-refused c t e q = ⊎_elim
-    (λ (h : t < length c).
-    let k : ◌≡◌ {A = Result ℕ Refusal} (Err e) (Ok (length (track c t))) = q ∙ cond-true (ltb t (length c)) (Ok (length (track c t))) (Err NoTrack) (lt-ltb t (length c) h) in
-    let z : ◌≡◌ {A = ℕ} 0 1 = cc in absurd (omega arith))
-    (λ (h : length c ≤ t). sym (gone_empty c t h))
-    (cases_lt t (length c))
 
 -- a read of no more cells than there are is refused only where it is of none
 pub read-refused : (c : Tape) (t p n : ℕ) (e : Refusal) → Err e ≡ read_answer c t p n → n ≤ length (track c t) - p → n ≡ 0
@@ -84,14 +76,14 @@ decoded_front t c = ⊎_elim
     long : (d : List ℕ) → 5180 ≤ length d → decoded t d ≡ by_groups t (groups 518 d) (first_fault 0 (groups 518 d))
     long d h = cond-false (ltb (length d) 5180) _ _ (le-ltb (length d) 5180 h)
 
--- so the cells that are read of a track, up to 5,180 of them, tell what stands there
-pub decoded_part : (t n p : ℕ) (c : List ℕ) → n ≡ min 5180 (length c - p) → decoded t (take n (drop p c)) ≡ decoded t (drop p c)
-decoded_part t n p c e = ⊎_elim
-    (λ (h : length c - p < 5180). ap (decoded t) (take_all n (drop p c) (omega (arith, length-drop p c))))
-    (λ (h : 5180 ≤ length c - p). let k : n ≡ 5180 = omega arith in ap (λ (m : ℕ). decoded t (take m (drop p c))) k ∙ decoded_front t (drop p c))
-    (cases_lt (length c - p) 5180)
+-- as many as a buffer takes, of those that there are
+pub take-least : (m n : ℕ) (c : List ℕ) → n ≡ min m (length c) → take n c ≡ take m c
+take-least m n c e = ⊎_elim
+    (λ (h : length c < m). take_all n c (omega arith) ∙ sym (take_all m c (omega arith)))
+    (λ (h : m ≤ length c). let k : n ≡ m = omega arith in ap (λ (j : ℕ). take j c) k)
+    (cases_lt (length c) m)
 
 -- what the cells that were read are decoded as
-pub read-decoded : (t n p : ℕ) (c bs : List ℕ) → AllByRecursion Cell c → n ≡ min 5180 (length c - p) → take n bs ≡ take n (drop p c) → decoded t (map cell (take n bs)) ≡ read_here t c p
+pub read-decoded : (t p : ℕ) (c bs : List ℕ) → AllByRecursion Cell c → bs ≡ take 5180 (drop p c) → decoded t (map cell bs) ≡ read_here t c p
 unfolding read_here
-read-decoded t n p c bs h e q = ap (λ (z : List ℕ). decoded t (map cell z)) q ∙ (ap (decoded t) (part_cells n p c h) ∙ decoded_part t n p c e)
+read-decoded t p c bs h q = ap (λ (z : List ℕ). decoded t (map cell z)) q ∙ (ap (decoded t) (part_cells 5180 p c h) ∙ decoded_front t (drop p c))

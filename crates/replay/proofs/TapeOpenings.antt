@@ -101,6 +101,12 @@ pub data GoesOn (o : OpeningAt) (rest : List OpeningAt) : List OpeningAt → Typ
   right-here : GoesOn o rest (o ∷ rest)
   further : {x : OpeningAt} {os : List OpeningAt} → GoesOn o rest os → GoesOn o rest (x ∷ os)
 
+-- fewer openings are left after it
+pub goes_fewer : (o : OpeningAt) (rest os : List OpeningAt) → GoesOn o rest os → length rest < length os
+goes_fewer o rest [] g = elim g [ ]
+goes_fewer o rest (x ∷ os) right-here = omega arith
+goes_fewer o rest (x ∷ os) (further g) = omega (arith, goes_fewer o rest os g)
+
 -- it is the first, or stands further on
 pub goes_cases : {P : Type 0} (o : OpeningAt) (rest : List OpeningAt) (x : OpeningAt) (os : List OpeningAt) → GoesOn o rest (x ∷ os) → (o ≡ x → rest ≡ os → P) → (GoesOn o rest os → P) → P
 goes_cases o rest x os right-here p q = p refl refl

@@ -2,7 +2,7 @@
 use Rattle.std.specs.Prelude.{ℕ, List, [], ◌∷◌, Some, None, Ok, Err, Option, Result}
 use Rattle.qic24.specs.Copy.{Numbered, held}
 use Rattle.qic24.specs.declared.fault.CopyFault.{CopyFault}
-use Rattle.replay.specs.Copies.{TapePlace, placed}
+use Rattle.replay.specs.Copies.{TapePlace, CopyAt, placed}
 use Rattle.replay.specs.Replay.{ReplayState, expecting, not_located, UnsoundOpening, UnlocatedNumber}
 use Rattle.replay.specs.Scan.{OpeningAt}
 use Rattle.replay.specs.Seeking.{FindResult, found_item, found_end, found_beyond, ReplayCursor}
@@ -13,6 +13,16 @@ use Rattle.replay.specs.declared.found.Found.TheVariants.{Item, End}
 abbrev pub first_place : List OpeningAt → Option TapePlace
 first_place [] = None
 first_place (o ∷ os) = Some o.place
+
+-- the first sound copy among some openings
+abbrev pub first_copy : List OpeningAt → Option CopyAt
+first_copy [] = None
+first_copy (o ∷ os) = elim o.reads [ Ok i ↦ Some (placed o.place i) | Err e ↦ first_copy os ]
+
+-- the last unsound opening before it, or u where there is none
+abbrev pub unsound_before : Option UnsoundOpening → List OpeningAt → Option UnsoundOpening
+unsound_before u [] = u
+unsound_before u (o ∷ os) = elim o.reads [ Ok i ↦ u | Err e ↦ unsound_before (Some (record { place = o.place; cause = e })) os ]
 
 -- what stands after an opening: an item, or an unsound copy at this place
 abbrev pub opened : TapePlace → Result Numbered CopyFault → Result Numbered UnsoundOpening

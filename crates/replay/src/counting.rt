@@ -15,6 +15,7 @@ pub fn next_number<C: Reading>(cartridge: &C) -> Result<u32, UnlocatedNumber>
     ensures small { IfOk result (λ n. (1 ≤ n) × (n ≤ 1048576)) }
 {
     let mut cursor = ReplayCursor::rewound();
+    // no iterator: the end and a refusal stay at the cursor, and are found there again
     while let Found::Item { after, .. } = next_item(cartridge, &cursor)? {
         cursor = after;
     }

@@ -3,7 +3,8 @@ use crate::cursor::ReplayCursor;
 use crate::place::TapePlace;
 use qic24::Item;
 
-#[derive(Clone, Copy)]
+// Not an Option: the end tells something too.
+#[derive(Clone, Copy, PartialEq, Eq, Debug)]
 pub enum Found {
     // the expected item, where it stands, and where the replay goes on
     Item {

@@ -2,6 +2,7 @@
 
 #![tactic(auto)]
 
+mod copies;
 mod counting;
 mod cursor;
 mod found;

@@ -1,27 +1,37 @@
-// Filing the items of a replay, row by row.
-ghost use Rattle.std.specs.Prelude.{◌≡◌, if◌then◌else◌, nat_eq, slice_set};
-ghost use Rattle.shelf.specs.Shelf.{row_of};
+// The items of a replay as files, one after the other.
+ghost use Rattle.std.specs.Prelude.{◌≡◌, IfSome, IfOk};
+ghost use Rattle.shelf.specs.Survey.{shelf_from, next_row, GoesFurther};
 
 use crate::row::ShelfRow;
+use qic24::Content;
+use replay::{Found, ReplayCursor, UnlocatedNumber, next_item};
+use tape::Reading;
 
-// Puts a row in its place, if there is such a place.
-pub(crate) fn put_row(rows: &mut [ShelfRow], at: usize, row: ShelfRow)
-    ensures { rows.new ≡ slice_set rows.old at row }
+// The row of the next file; none at the end. The cursor moves past its items.
+pub(crate) fn next_file<C: Reading>(
+    cartridge: &C,
+    cursor: &mut ReplayCursor,
+) -> Result<Option<ShelfRow>, UnlocatedNumber>
+    ensures row { shelf_from (C.Reading.cells cartridge.now) cursor.old ≡ next_row result (shelf_from (C.Reading.cells cartridge.now) cursor.new) }
+    ensures further { IfOk result (λ row. IfSome row (λ _. GoesFurther (C.Reading.cells cartridge.now) cursor.old cursor.new)) }
 {
-    if at < rows.len() {
-        rows[at] = row;
+    let mut file = None;
+    // no iterator: the end and a refusal stay at the cursor, and are found there again
+    while let Found::Item { item, after, .. } = next_item(cartridge, cursor)? {
+        *cursor = after;
+        let mut row = file.unwrap_or(ShelfRow {
+            first: item.number(),
+            count: 0,
+            closed: false,
+        });
+        match item.content() {
+            Content::Block(_) => row.count += 1,
+            Content::Mark => {
+                row.closed = true;
+                return Ok(Some(row));
+            }
+        }
+        file = Some(row);
     }
-}
-
-// The file under way when an item of this number is next: its first one gives it its number.
-pub(crate) fn begun(file: ShelfRow, number: u32) -> ShelfRow
-    ensures { result ≡ row_of (if nat_eq file.count 0 then number else file.first) file.count file.closed }
-{
-    if file.count == 0 {
-        return ShelfRow {
-            first: number,
-            ..file
-        };
-    }
-    file
+    Ok(file)
 }

@@ -8,7 +8,8 @@ use tape::stretch_holding;
 pub fn lookup(rows: &[ShelfRow], number: u32) -> Option<ShelfRow>
     ensures { LooksUp rows.now number result }
 {
-    let Some(i) = stretch_holding(rows, number as u64) else {
+    // no `?`: a search's index is taken by let .. else, a rule of the project
+    let Some(i) = stretch_holding(rows, u64::from(number)) else {
         return None;
     };
     Some(rows[i])

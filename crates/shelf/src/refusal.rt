@@ -4,7 +4,7 @@ ghost use Rattle.shelf.specs.declared.refusal.SurveyRefusal.TheVariants.{Unlocat
 
 use replay::UnlocatedNumber;
 
-#[derive(Clone, Copy)]
+#[derive(Clone, Copy, PartialEq, Eq, Debug)]
 pub enum SurveyRefusal {
     // A number is not located; where a later one stands, and the last unsound opening before it.
     Unlocated(UnlocatedNumber),
@@ -12,6 +12,7 @@ pub enum SurveyRefusal {
     TooFewRows,
 }
 
+// Written by hand, since clauses name the variant that `?` makes.
 impl From<UnlocatedNumber> for SurveyRefusal {
     ghost from_gives = { λ w r. r ≡ Unlocated w };
 

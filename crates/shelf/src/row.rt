@@ -4,7 +4,7 @@ ghost use Rattle.shelf.specs.Lookup.{row_first, row_extent};
 
 use tape::Stretch;
 
-#[derive(Clone, Copy)]
+#[derive(Clone, Copy, PartialEq, Eq, Debug)]
 pub struct ShelfRow {
     // The number of its first block, or of its mark where it has none.
     pub first: u32,
@@ -21,10 +21,10 @@ impl Stretch for ShelfRow {
     ghost extent = { row_extent };
 
     fn first(&self) -> u64 {
-        self.first as u64
+        u64::from(self.first)
     }
 
     fn extent(&self) -> u64 {
-        self.count as u64
+        u64::from(self.count)
     }
 }

@@ -1,21 +1,23 @@
 // Surveying a cartridge. Not public before the call whose contract says that list and tape agree.
-ghost use Rattle.std.specs.Prelude.{◌≡◌, length, IfOk};
+ghost use Rattle.std.specs.Prelude.{◌≡◌, length, slice_set, IfOk};
 ghost use Rattle.qic24.specs.Decode.{mapped_ok};
 ghost use Rattle.shelf.specs.Survey.{tape_shelf, survey_by, PutOver};
 
-use crate::filing::{begun, put_row};
+use crate::filing::next_file;
 use crate::refusal::SurveyRefusal;
 use crate::row::ShelfRow;
-use qic24::Content;
-use replay::{Found, ReplayCursor, UnlocatedNumber, next_item};
+use replay::{ReplayCursor, UnlocatedNumber};
 use tape::Reading;
 
-// No file is under way.
-const NO_FILE: ShelfRow = ShelfRow {
-    first: 0,
-    count: 0,
-    closed: false,
-};
+// Puts a row in its place, if there is such a place.
+fn put_row(rows: &mut [ShelfRow], at: usize, row: ShelfRow)
+    ensures { rows.new ≡ slice_set rows.old at row }
+{
+    // by index: of what get_mut lends a proof would not know the row
+    if at < rows.len() {
+        rows[at] = row;
+    }
+}
 
 // Replays the whole tape and answers how many files it has; as many of them as there are rows for are filled in.
 fn list_rows<C: Reading>(cartridge: &C, rows: &mut [ShelfRow]) -> Result<usize, UnlocatedNumber>
@@ -23,29 +25,10 @@ fn list_rows<C: Reading>(cartridge: &C, rows: &mut [ShelfRow]) -> Result<usize, 
     ensures rows { IfOk (tape_shelf (C.Reading.cells cartridge.now)) (λ list. PutOver list rows.old rows.new) }
 {
     let mut cursor = ReplayCursor::rewound();
-    let mut file = NO_FILE;
     let mut filed = 0;
-    while let Found::Item { item, after, .. } = next_item(cartridge, &cursor)? {
-        cursor = after;
-        file = begun(file, item.number());
-        match item.content() {
-            Content::Block(_) => file.count += 1,
-            Content::Mark => {
-                put_row(
-                    rows,
-                    filed,
-                    ShelfRow {
-                        closed: true,
-                        ..file
-                    },
-                );
-                filed += 1;
-                file = NO_FILE;
-            }
-        }
-    }
-    if file.count > 0 {
-        put_row(rows, filed, file);
+    while let Some(row) = next_file(cartridge, &mut cursor)? {
+        put_row(rows, filed, row);
+        // a file that no row is left for counts too
         filed += 1;
     }
     Ok(filed)

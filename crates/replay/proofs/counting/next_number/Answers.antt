@@ -1,11 +1,8 @@
-use Rattle.std.proofs.Common.{◌≡◌, [], Ok, sym, ap, ◌∙◌, subst, arith}
+use Rattle.std.proofs.Common.{[], sym, subst, arith}
 use Rattle.std.proofs.lemmas.Result.{err_from_is_err_and}
 use Rattle.qic24.specs.Copy.{held}
-use Rattle.replay.specs.Answered.{found_by, goes_on}
 use Rattle.replay.specs.Copies.{OfCartridge, placed}
-use Rattle.replay.specs.Seeking.{found_item, found_end, next_found, cursor_after}
-use Rattle.replay.specs.declared.found.Found.{Found}
-use Rattle.replay.proofs.Counts.{GoesOnAt, item_goes, item_fewer, end-number, beyond-number}
+use Rattle.replay.proofs.Counts.{GoesOnAt, finds-item, moves-item, finds-end, item_goes, item_fewer, end-number, beyond-number}
 use Rattle.replay.proofs.Replaying.{replays_from_start}
 use Rattle.replay.proofs.counting.next_number.Goals as goal
 
@@ -24,26 +21,24 @@ loop-after-smaller g c =
     let s = g.C.Reading.cells c.args.cartridge.now in
     let k = c.loop-after.cursor in
     let m = c.in_ok-after.ensures in
-    let f = placed c.in-Item.place (held c.in-Item.item) in
-    let e : found_item f ≡ next_found s k = ap (λ (x : Found). found_by (Ok x)) (sym c.in-Item.is) ∙ m.answer in
-    let a : c.in-Item.after ≡ cursor_after k (next_found s k) = ap (λ (x : Found). goes_on k (Ok x)) (sym c.in-Item.is) ∙ m.after in
+    let i = c.in-Item in
     let h : OfCartridge s = record { few = g.met.C.Reading.few c.args.cartridge.now; binary = g.met.C.Reading.binary c.args.cartridge.now } in
-    item_fewer s h k c.in-Item.after f e a
+    item_fewer s h k i.after (placed i.place (held i.item)) (finds-item s k c.in_ok-after.field-0 m.answer i.place i.item i.after i.is) (moves-item s k c.in_ok-after.field-0 m.answer i.place i.item i.after i.is m.after)
 
 pub loop-after-preserved : goal.loop-after-preserved
 loop-after-preserved g c =
     let s = g.C.Reading.cells c.args.cartridge.now in
     let k = c.loop-after.cursor in
     let m = c.in_ok-after.ensures in
-    let f = placed c.in-Item.place (held c.in-Item.item) in
-    let e : found_item f ≡ next_found s k = ap (λ (x : Found). found_by (Ok x)) (sym c.in-Item.is) ∙ m.answer in
-    let a : c.in-Item.after ≡ cursor_after k (next_found s k) = ap (λ (x : Found). goes_on k (Ok x)) (sym c.in-Item.is) ∙ m.after in
+    let i = c.in-Item in
     let h : OfCartridge s = record { few = g.met.C.Reading.few c.args.cartridge.now; binary = g.met.C.Reading.binary c.args.cartridge.now } in
-    item_goes s h k c.in-Item.after f e a c.loop-after.invariant
+    item_goes s h k i.after (placed i.place (held i.item)) (finds-item s k c.in_ok-after.field-0 m.answer i.place i.item i.after i.is) (moves-item s k c.in_ok-after.field-0 m.answer i.place i.item i.after i.is m.after) c.loop-after.invariant
 
 pub returns : goal.returns
 returns g c =
     let s = g.C.Reading.cells c.args.cartridge.now in
     let k = c.loop-after.cursor in
-    let e : found_end c.in_default.field-0 ≡ next_found s k = ap (λ (x : Found). found_by (Ok x)) (sym c.in_default.is) ∙ c.in_ok-after.ensures.answer in
-    record { answer = end-number s k c.in_default.field-0 c.loop-after.invariant e; small = (c.loop-after.invariant.least, c.loop-after.invariant.most) }
+    record {
+      answer = end-number s k c.in_default.field-0 c.loop-after.invariant (finds-end s k c.in_ok-after.field-0 c.in_ok-after.ensures.answer c.in_default.field-0 c.in_default.is);
+      small = (c.loop-after.invariant.least, c.loop-after.invariant.most);
+    }

@@ -1,4 +1,4 @@
-use Rattle.std.proofs.Common.{◌≡◌, ◌+◌, sym, ◌∙◌, arith}
+use Rattle.std.proofs.Common.{◌≡◌, ◌+◌, sym, refl, ◌∙◌, arith}
 use Rattle.tape.specs.Tape.{track}
 use Rattle.replay.proofs.TapeOpenings.{opens_not}
 use Rattle.replay.proofs.Windows.{found_in_part, opens_tested}
@@ -11,7 +11,6 @@ pub returns : goal.returns
 returns g c =
     let s = c.args.cartridge.now in
     let t = track (g.C.Reading.cells s) c.args.place.on in
-    let n = c.read_part-count.result in
     let e : c.in-Some.start + 14 ≡ c.args.place.at = omega (arith, c.in-Some.ensures) in
-    c.is_some.ensures ∙ opens_tested t c.in-Some.start n c.args.place.at c.find_opening.result c.read_part-count.ensures.count e
-    (found_in_part t c.read_part-count.new.out c.in-Some.start n c.find_opening.result (g.met.C.Reading.binary s c.args.place.on) c.read_part-count.ensures.cells c.find_opening.ensures.first)
+    c.is_some.ensures ∙ opens_tested t c.in-Some.start c.args.place.at c.find_opening.result e
+    (found_in_part t c.read_part-before.result.now c.in-Some.start 14 14 c.find_opening.result (g.met.C.Reading.binary s c.args.place.on) refl c.read_part-before.ensures c.find_opening.ensures.first)
