@@ -3,7 +3,7 @@ use Rattle.std.proofs.Common.{◌≡◌, ℕ, zero, suc, ◌/◌, ◌%◌, Bool,
 use Rattle.std.specs.List.{AllByRecursion}
 use Rattle.std.proofs.ByRecursion.{All-append}
 use Rattle.std.proofs.lemmas.Bool.{cases_eq}
-use Rattle.qic24.specs.Cells.{Cell, joined, bits, nibble_codes, nibble_cells, byte_cells, mark_cells}
+use Rattle.qic24.specs.Cells.{Cell, concat, bits, nibble_codes, nibble_cells, byte_cells, mark_cells}
 use Rattle.qic24.specs.Copy.{Numbered, coded, mark_data, data_cells, address, two_bytes, item_crc, body, marker, ones, copy, preamble_ones}
 use Rattle.qic24.specs.declared.item.Content.{Content}
 use Rattle.qic24.specs.declared.item.Content.TheVariants.{Block, Mark}
@@ -27,9 +27,9 @@ mark-binary : AllByRecursion Cell mark_cells
 unfolding mark_cells
 mark-binary = bits-binary 10 0b0010100101
 
-marks-binary : (n : ℕ) → AllByRecursion Cell (joined (replicate n mark_cells))
+marks-binary : (n : ℕ) → AllByRecursion Cell (concat (replicate n mark_cells))
 marks-binary zero = tt
-marks-binary (suc n) = All-append Cell mark_cells (joined (replicate n mark_cells)) mark-binary (marks-binary n)
+marks-binary (suc n) = All-append Cell mark_cells (concat (replicate n mark_cells)) mark-binary (marks-binary n)
 
 data_binary : (x : Content) → AllByRecursion Cell (data_cells x)
 unfolding mark_data

@@ -1,5 +1,5 @@
 -- The pending item finished, and the new one on the next track.
-use Rattle.std.proofs.Common.{◌≡◌, ℕ, suc, ◌+◌, ◌*◌, ◌<◌, ◌≤◌, min, Bool, true, false, cond, eqb, ltb, List, [], ◌∷◌, ◌++◌, length, sym, ap, ◌∙◌, subst, append-nil, arith}
+use Rattle.std.proofs.Common.{◌≡◌, ℕ, suc, ◌+◌, ◌*◌, ◌<◌, ◌≤◌, min, Bool, true, cond, eqb, ltb, List, [], ◌∷◌, ◌++◌, length, ap, ◌∙◌, subst, arith}
 use Rattle.qic24.specs.Copy.{Numbered, copy, preamble_ones}
 use Rattle.qic24.specs.declared.layout.Preamble.TheVariants.{Elongated, Long}
 use Rattle.tape.specs.Tape.{track, Run, run, Sends}
@@ -21,9 +21,9 @@ module _ {S : Type 0} (C : Medium S) (N M : Numbered) (full : Full N.content) (s
   abbrev finished_by : S → List Run
   finished_by e = finish_runs (C.room s) (C.cells s) (last_copy (C.cells s) N) (failed_alone (C.room s) (C.cells s) (C.cells e) N)
 
-  pub record Changed (t : ℕ) (good : Bool) (e : S) : Type 0 where
-    pub sent : Sends C.takes s (finished_by e ++ cond good (copy_run (first_preamble (C.cells s) (suc t)) (first_on (C.room s) (C.cells s) (suc t) M) ∷ []) []) e
-    pub answer : good ≡ ltb (failed_alone (C.room s) (C.cells s) (C.cells e) N) most_writings
+  pub record Changed (t : ℕ) (e : S) : Type 0 where
+    pub sent : Sends C.takes s (finished_by e ++ cond (ltb (failed_alone (C.room s) (C.cells s) (C.cells e) N) most_writings) (copy_run (first_preamble (C.cells s) (suc t)) (first_on (C.room s) (C.cells s) (suc t) M) ∷ []) []) e
+    pub answer : true ≡ ltb (failed_alone (C.room s) (C.cells s) (C.cells e) N) most_writings
 
   next_same : (t : ℕ) (e : S) (good : Bool) → t ≡ end_track (C.cells s) → Finished C N s good e → track (C.cells e) (suc t) ≡ track (C.cells s) (suc t)
   next_same t e good on f =
@@ -35,7 +35,7 @@ module _ {S : Type 0} (C : Medium S) (N M : Numbered) (full : Full N.content) (s
       let none = next_same t e good on f ∙ past-end_track (C.cells s) (suc t) (omega arith) in
       (omega (arith, (sent_extends C (finished_by e) s e f.sent).tracks), omega (arith, ap length none, sent-room C (finished_by e) s e f.sent))
 
-  pub changed_good : (t u : ℕ) (e e' : S) → t ≡ end_track (C.cells s) → u ≡ suc t → Finished C N s true e → Sends C.takes e (first_run M u (track (C.cells e) u) ∷ []) e' → Changed t true e'
+  pub changed_good : (t u : ℕ) (e e' : S) → t ≡ end_track (C.cells s) → u ≡ suc t → Finished C N s true e → Sends C.takes e (first_run M u (track (C.cells e) u) ∷ []) e' → Changed t e'
   changed_good t u e e' on next f x =
       let m = failed_alone (C.room s) (C.cells s) (C.cells e) N in
       let k = min (suc m) more_writings in
@@ -46,11 +46,7 @@ module _ {S : Type 0} (C : Medium S) (N M : Numbered) (full : Full N.content) (s
       let long : end_place (C.cells s) + k * normal_copy ≤ length (track (C.cells e) (end_track (C.cells s))) = subst (λ (n : ℕ). end_place (C.cells s) + n * normal_copy ≤ length (track (C.cells e) (end_track (C.cells s)))) count grew in
       let same : m ≡ failed_alone (C.room s) (C.cells s) (C.cells e') N = failures_later (last_copy (C.cells s) N) (alone_at (C.room s) (C.cells s)) (C.cells e) (C.cells e') (sent_extends C (first_run M (suc t) (track (C.cells s) (suc t)) ∷ []) e e' x') (of_cartridge C e')
       (λ i h l. lone_whole (C.room s) (C.cells s) N (C.cells e) i k long (omega arith) (omega arith)) in
-      record {
-        sent = subst (λ (n : ℕ). Sends C.takes s (finish_runs (C.room s) (C.cells s) (last_copy (C.cells s) N) n ++ (first_run M (suc t) (track (C.cells s) (suc t)) ∷ [])) e') same
-            (sends-append C.takes (finished_by e) (first_run M (suc t) (track (C.cells s) (suc t)) ∷ []) s e e' f.sent x');
-        answer = f.answer ∙ ap (λ (n : ℕ). ltb n most_writings) same;
-      }
-
-  pub changed_failed : (t : ℕ) (e : S) → Finished C N s false e → Changed t false e
-  changed_failed t e f = record { sent = subst (λ (rs : List Run). Sends C.takes s rs e) (sym (append-nil (finished_by e))) f.sent; answer = f.answer }
+      let answer : true ≡ ltb (failed_alone (C.room s) (C.cells s) (C.cells e') N) most_writings = f.answer ∙ ap (λ (n : ℕ). ltb n most_writings) same in
+      let sent = subst (λ (n : ℕ). Sends C.takes s (finish_runs (C.room s) (C.cells s) (last_copy (C.cells s) N) n ++ (first_run M (suc t) (track (C.cells s) (suc t)) ∷ [])) e') same
+      (sends-append C.takes (finished_by e) (first_run M (suc t) (track (C.cells s) (suc t)) ∷ []) s e e' f.sent x') in
+      record { sent = subst (λ (b : Bool). Sends C.takes s (finished_by e' ++ cond b (first_run M (suc t) (track (C.cells s) (suc t)) ∷ []) []) e') answer sent; answer = answer }

@@ -1,7 +1,7 @@
 -- How many cells a copy has.
 use Rattle.std.proofs.Common.{◌≡◌, ℕ, zero, suc, ◌+◌, ◌*◌, List, [], ◌∷◌, ◌++◌, length, take, drop, replicate, refl, ap, ◌∙◌, arith, length-append, length-drop, length-take}
 use lib.ListN.{length-replicate}
-use Rattle.qic24.specs.Cells.{joined, bits, nibble_cells, byte_cells, mark_cells}
+use Rattle.qic24.specs.Cells.{concat, bits, nibble_cells, byte_cells, mark_cells}
 use Rattle.qic24.specs.Copy.{Numbered, ProperContent, coded, mark_data, data_cells, address, two_bytes, item_crc, body, marker, ones, copy}
 use Rattle.qic24.specs.declared.item.Content.{Content}
 use Rattle.qic24.specs.declared.item.Content.TheVariants.{Block, Mark}
@@ -30,9 +30,9 @@ length_bytes : (bs : List ℕ) → length (coded bs) ≡ length bs * 10
 length_bytes [] = refl
 length_bytes (b ∷ bs) = length-append (byte_cells b) (coded bs) ∙ omega (arith, length_byte b, length_bytes bs)
 
-length-marks : (n : ℕ) → length (joined (replicate n mark_cells)) ≡ n * 10
+length-marks : (n : ℕ) → length (concat (replicate n mark_cells)) ≡ n * 10
 length-marks zero = refl
-length-marks (suc n) = length-append mark_cells (joined (replicate n mark_cells)) ∙ omega (arith, length-mark, length-marks n)
+length-marks (suc n) = length-append mark_cells (concat (replicate n mark_cells)) ∙ omega (arith, length-mark, length-marks n)
 
 length_data : (x : Content) → Full x → length (data_cells x) ≡ 5120
 unfolding mark_data

@@ -9,7 +9,6 @@ pub mod Media
 pub mod PairWritings
 pub mod LoneWritings
 pub mod ChangedTracks
-pub mod NextCalls
 pub mod TakenItems
 pub mod ListedNumbers
 pub mod NeverShort
@@ -32,3 +31,7 @@ pub mod LaterTapes
 pub mod ShelfLists
 pub mod MadeSteps
 pub mod Agreeing
+pub mod Printed
+pub mod StayedHeads
+pub mod TracksBack
+pub mod CameOut

@@ -1,6 +1,6 @@
 -- The pending item written again alone: what is sent so far, and that it failed so far.
-use Rattle.std.proofs.Common.{◌≡◌, ℕ, zero, suc, ◌+◌, ◌-◌, ◌*◌, ◌<◌, ◌≤◌, min, Bool, true, false, cond, ltb, List, [], ◌∷◌, ◌++◌, length, sym, refl, ap, ◌∙◌, subst, append-nil, add-one, arith}
-use Rattle.std.proofs.lemmas.Bool.{lt-ltb, cond-true, cond-false}
+use Rattle.std.proofs.Common.{◌≡◌, ℕ, zero, suc, ◌+◌, ◌-◌, ◌*◌, ◌<◌, ◌≤◌, min, Bool, true, false, cond, ltb, List, [], ◌∷◌, ◌++◌, length, sym, refl, ap, ◌∙◌, subst, add-one, arith}
+use Rattle.std.proofs.lemmas.Bool.{lt-ltb, cond-true}
 use Rattle.qic24.specs.Copy.{Numbered, ones, copy, preamble_ones}
 use Rattle.qic24.specs.declared.layout.Preamble.TheVariants.{Normal}
 use Rattle.tape.specs.Tape.{Tape, track, Run, run, Sends, Grown}
@@ -84,12 +84,11 @@ module _ {S : Type 0} (C : Medium S) (N : Numbered) (full : Full N.content) (s :
   lone_length : (k : ℕ) (e : S) → Sends C.takes s (lone_runs (C.room s) (C.cells s) N k) e → length (track (C.cells e) (end_track (C.cells s))) ≡ end_place (C.cells s) + k * normal_copy
   lone_length k e h = lone_grew (C.room s) (C.cells s) N k (C.cells e) full (sent_grown C (lone_runs (C.room s) (C.cells s) N k) s e h)
 
-  -- the track is there, and has room
-  pub lone_fit : (t k : ℕ) (e : S) → t ≡ end_track (C.cells s) → t < length (C.cells s) → finish_room + end_place (C.cells s) ≤ C.room s → k ≤ more_writings → Sends C.takes s (lone_runs (C.room s) (C.cells s) N k) e → (t < length (C.cells e)) × (length (track (C.cells e) t) + (more_writings - k) * normal_copy + closing_ones ≤ C.room e)
-  lone_fit t k e on there fits h p =
-      let rs : List Run = lone_runs (C.room s) (C.cells s) N k in
+  -- the track has room
+  pub lone_fit : (t k : ℕ) (e : S) → t ≡ end_track (C.cells s) → finish_room + end_place (C.cells s) ≤ C.room s → k ≤ more_writings → Sends C.takes s (lone_runs (C.room s) (C.cells s) N k) e → length (track (C.cells e) t) + (more_writings - k) * normal_copy + closing_ones ≤ C.room e
+  lone_fit t k e on fits h p =
       let long : length (track (C.cells e) t) ≡ end_place (C.cells s) + k * normal_copy = ap (λ (u : ℕ). length (track (C.cells e) u)) on ∙ lone_length k e p in
-      (omega (arith, (sent_extends C rs s e p).tracks), omega (arith, sent-room C rs s e p))
+      omega (arith, sent-room C (lone_runs (C.room s) (C.cells s) N k) s e p)
 
   pub lone_sent : (t j : ℕ) (e e' : S) → t ≡ end_track (C.cells s) → Lone C N s j j e → C.takes e (again_run t) e' → Lone C N s (j + 1) j e'
   lone_sent t j e e' on p x =
@@ -140,10 +139,3 @@ module _ {S : Type 0} (C : Medium S) (N : Numbered) (full : Full N.content) (s :
       sends-append C.takes (lone_runs (C.room s) (C.cells s) N k) (cond (ltb m most_writings) (run (end_track (C.cells s)) (ones closing_ones) ∷ []) []) s e e' a.sent
       (subst (λ (rs : List Run). Sends C.takes e rs e') (sym (cond-true (ltb m most_writings) (run (end_track (C.cells s)) (ones closing_ones) ∷ []) [] (sym a.answer))) x') in
       record { sent = subst (λ (n : ℕ). Sends C.takes s (finish_runs (C.room s) (C.cells s) (last_copy (C.cells s) N) n) e') same closed; answer = a.answer ∙ ap (λ (n : ℕ). ltb n most_writings) same }
-
-  pub finished_failed : (e : S) → Again C N s false e → Finished C N s false e
-  finished_failed e a =
-      let m = failed_alone (C.room s) (C.cells s) (C.cells e) N in
-      let rs : List Run = copy_runs (finish_puts (C.room s) (C.cells s) (last_copy (C.cells s) N) m) in
-      let ends : finish_runs (C.room s) (C.cells s) (last_copy (C.cells s) N) m ≡ rs = ap (λ (ys : List Run). rs ++ ys) (cond-false (ltb m most_writings) (run (end_track (C.cells s)) (ones closing_ones) ∷ []) [] (sym a.answer)) ∙ append-nil rs in
-      record { sent = subst (λ (ys : List Run). Sends C.takes s ys e) (sym ends) a.sent; answer = a.answer }

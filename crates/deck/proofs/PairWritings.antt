@@ -60,6 +60,9 @@ module _ {S : Type 0} (C : Medium S) (N M : Numbered) where
     failed = failed_none (last_copy (C.cells s) N) (pending_at (C.room s) (C.cells s)) (C.cells e);
   }
 
+  pub pairs_since : (t u j : ℕ) (s b e : S) → u ≡ t → t ≡ end_track (C.cells s) → C.takes s (run t (copy (preamble_ones Normal) t M)) b → PairsSince u j b e → Pairs s j e
+  pairs_since t u j s b e q on k p = p s (q ∙ on) (subst (λ (v : ℕ). C.takes s (run v (copy (preamble_ones Normal) v M)) b) (sym q) k)
+
   -- what following leaves, and whether N came out good
   pub record Followed (s : S) (good : Bool) (e : S) : Type 0 where
     pub sent : Sends C.takes s (copy_runs (pair_puts (C.room s) (C.cells s) (last_copy (C.cells s) N) M (failed_with (C.room s) (C.cells s) (C.cells e) N))) e
@@ -72,12 +75,11 @@ module _ {S : Type 0} (C : Medium S) (N M : Numbered) (fN : Full N.content) (fM 
       let a : min j more_writings ≡ j = omega arith in
       omega arith
 
-  -- the track is there, and has room for one pair more
-  pub pairs_fit : (t j : ℕ) (e : S) → t ≡ end_track (C.cells s) → t < length (C.cells s) → item_room + end_place (C.cells s) ≤ C.room s → j < more_writings → Pairs C N M s j e → (t < length (C.cells e)) × (length (track (C.cells e) t) + 2 * normal_copy ≤ C.room e)
-  pairs_fit t j e on there fits h p =
-      let rs : List Run = copy_runs (pair_puts (C.room s) (C.cells s) (last_copy (C.cells s) N) M j) in
+  -- the track has room for one pair more
+  pub pairs_fit : (t j : ℕ) (e : S) → t ≡ end_track (C.cells s) → item_room + end_place (C.cells s) ≤ C.room s → j < more_writings → Pairs C N M s j e → length (track (C.cells e) t) + 2 * normal_copy ≤ C.room e
+  pairs_fit t j e on fits h p =
       let long : length (track (C.cells e) t) ≡ end_place (C.cells s) + suc (j + j) * normal_copy = ap (λ (u : ℕ). length (track (C.cells e) u)) on ∙ pairs_length j e (omega arith) p in
-      (omega (arith, (sent_extends C rs s e p.sends).tracks), omega (arith, sent-room C rs s e p.sends))
+      omega (arith, sent-room C (copy_runs (pair_puts (C.room s) (C.cells s) (last_copy (C.cells s) N) M j)) s e p.sends)
 
   -- what the check of the last copy but one answers
   abbrev Checked : ℕ → S → Bool → Type 0

@@ -4,7 +4,7 @@ use Rattle.std.specs.List.{AllByRecursion}
 use Rattle.std.proofs.ByRecursion.{All-append}
 use Rattle.std.proofs.lemmas.List.{take_at}
 use Rattle.std.proofs.lemmas.Result.{MatchResult-at_ok}
-use Rattle.qic24.specs.Cells.{joined, bits, Cell, nibble_codes, nibble_cells, byte_cells, mark_cells}
+use Rattle.qic24.specs.Cells.{concat, bits, Cell, nibble_codes, nibble_cells, byte_cells, mark_cells}
 use Rattle.qic24.specs.Copy.{Numbered, coded, mark_data, data_cells, address, two_bytes, item_crc, body, marker, ones, copy}
 use Rattle.qic24.specs.declared.item.Content.{Content}
 use Rattle.qic24.specs.declared.item.Content.TheVariants.{Block, Mark}
@@ -25,10 +25,10 @@ coded-binary : (bs : List ℕ) → AllByRecursion Cell (coded bs)
 coded-binary [] = tt
 coded-binary (b ∷ bs) = All-append Cell (byte_cells b) (coded bs) (byte_binary b) (coded-binary bs)
 
-marks-binary : (n : ℕ) → AllByRecursion Cell (joined (replicate n mark_cells))
+marks-binary : (n : ℕ) → AllByRecursion Cell (concat (replicate n mark_cells))
 unfolding mark_cells
 marks-binary zero = tt
-marks-binary (suc n) = All-append Cell mark_cells (joined (replicate n mark_cells)) (bits-binary 10 0b0010100101) (marks-binary n)
+marks-binary (suc n) = All-append Cell mark_cells (concat (replicate n mark_cells)) (bits-binary 10 0b0010100101) (marks-binary n)
 
 data_binary : (x : Content) → AllByRecursion Cell (data_cells x)
 unfolding mark_data

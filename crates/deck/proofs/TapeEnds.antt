@@ -1,19 +1,9 @@
 -- The track where a recording goes on, found track by track.
-use Rattle.std.proofs.Common.{◌≡◌, ℕ, suc, ◌+◌, ◌<◌, ◌≤◌, cond, ltb, List, [], ◌∷◌, length, Result, sym, refl, ap, ◌∙◌, inl, inr, arith}
-use Rattle.std.specs.Result.{result_unwrap_or}
-use Rattle.std.proofs.lemmas.Bool.{cases_lt, lt-ltb, le-ltb, cond-true, cond-false, cond_both}
-use Rattle.tape.specs.Calls.{length_answer}
+use Rattle.std.proofs.Common.{◌≡◌, ℕ, suc, ◌<◌, ◌≤◌, cond, ltb, List, [], ◌∷◌, length, refl, ap, ◌∙◌, inl, inr, arith}
+use Rattle.std.proofs.lemmas.Bool.{cases_lt, cond_both}
 use Rattle.tape.specs.Tape.{Tape, track}
-use Rattle.tape.specs.declared.refusal.Refusal.{Refusal}
-use Rattle.tape.proofs.Tapes.{track-none}
 use Rattle.deck.specs.Deck.{tracks_used, end_track}
 use Rattle.deck.proofs.CallRuns.{EmptyPast, end_track-is}
-
-pub told-length : (c : Tape) (t : ℕ) → result_unwrap_or (length_answer c t) 0 ≡ length (track c t)
-told-length c t = elim (cases_lt t (length c)) [
-  | inl h ↦ ap (λ (r : Result ℕ Refusal). result_unwrap_or r 0) (cond-true (ltb t (length c)) _ _ (lt-ltb t (length c) h))
-  | inr h ↦ ap (λ (r : Result ℕ Refusal). result_unwrap_or r 0) (cond-false (ltb t (length c)) _ _ (le-ltb t (length c) h)) ∙ ap length (sym (track-none c t h))
-]
 
 unused : (c : Tape) → ((u : ℕ) → length (track c u) ≡ 0) → tracks_used c ≡ 0
 unused [] e = refl
@@ -47,19 +37,6 @@ pub end_track-there : (c : Tape) → 0 < length c → end_track c < length c
 unfolding end_track
 end_track-there c h = omega (arith, used_most c)
 
--- no cells on the tracks looked at past t
-abbrev pub LastSoFar : Tape → ℕ → ℕ → Type 0
-LastSoFar c t n = (0 < t → 0 < length (track c t)) × ((u : ℕ) → t < u → u < n → length (track c u) ≡ 0)
-
-pub last_more : (c : Tape) (n : ℕ) → 0 < length (track c n) → LastSoFar c n (n + 1)
-last_more c n h = (λ _. h, λ u a b. absurd (omega arith))
-
-pub last-passed : (c : Tape) (t n : ℕ) → LastSoFar c t n → length (track c n) ≡ 0 → LastSoFar c t (n + 1)
-last-passed c t n (h, p) e = (h, λ u a b. elim (cases_lt u n) [ inl l ↦ p u a l | inr l ↦ let is : u ≡ n = omega arith in ap (λ (v : ℕ). length (track c v)) is ∙ e ])
-
-no_cells : (xs : List ℕ) → length xs ≡ 0 → xs ≡ []
+pub no_cells : (xs : List ℕ) → length xs ≡ 0 → xs ≡ []
 no_cells [] e = refl
 no_cells (x ∷ xs) e = absurd (omega arith)
-
-pub last-all : (c : Tape) (t n : ℕ) → LastSoFar c t n → length c ≤ n → t ≡ end_track c
-last-all c t n (h, p) l = sym (end_track_from c t h (λ u a. elim (cases_lt u n) [ inl b ↦ no_cells (track c u) (p u a b) | inr b ↦ track-none c u (omega arith) ]))

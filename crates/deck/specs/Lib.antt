@@ -9,6 +9,7 @@ pub mod State
 pub mod CallContract
 pub mod NextCall
 pub mod Ending
+pub mod Heads
 pub mod LastCopies
 pub mod Taking
 pub mod Recorded

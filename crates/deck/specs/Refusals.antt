@@ -1,8 +1,10 @@
 -- The refusals of a deck: the number of each, and the answer that it is.
-use Rattle.std.specs.Prelude.{ℕ, Ok, Err, Result}
+use Rattle.std.specs.Fmt.{decimal}
+use Rattle.std.specs.Prelude.{ℕ, List, [], ◌∷◌, ◌++◌, Ok, Err, Result}
 use Rattle.replay.specs.Seeking.{rewound_cursor}
 use Rattle.replay.specs.declared.cursor.ReplayCursor.{ReplayCursor}
 use Rattle.deck.specs.Calls.{DeckAnswer, next_number, kept_total, refused_with, unwritable, unlocated}
+use Rattle.deck.specs.declared.failed.FailedItem.{FailedItem}
 use Rattle.deck.specs.declared.obligation.Obligation.{Obligation}
 use Rattle.deck.specs.declared.obligation.StopRefusal.{StopRefusal}
 use Rattle.deck.specs.declared.obligation.StopRefusal.TheVariants as stop
@@ -19,6 +21,21 @@ refusal_number (Unwritable n) = 14
 refusal_number NotRecording = 15
 refusal_number StillRecording = 16
 refusal_number (Unlocated w) = 17
+
+-- what is printed behind the number: a space and the item's number, where one is named
+abbrev pub item_text : Refusal → List ℕ
+item_text WrongSize = []
+item_text CapacityTooSmall = []
+item_text MediaEnd = []
+item_text NumbersUsedUp = []
+item_text (Unwritable n) = 32 ∷ decimal n
+item_text NotRecording = []
+item_text StillRecording = []
+item_text (Unlocated w) = 32 ∷ decimal w.expected
+
+-- what is printed of a refusal
+abbrev pub refusal_text : Refusal → List ℕ
+refusal_text e = decimal (refusal_number e) ++ item_text e
 
 -- a refusal as an answer: two of them carry more than their number
 abbrev pub refused : Refusal → DeckAnswer
@@ -41,10 +58,10 @@ abbrev pub begun_answer : Result (ℕ × Obligation) Refusal → DeckAnswer
 begun_answer (Ok b) = next_number b.0
 begun_answer (Err e) = refused e
 
--- what a recording that closes is answered: its total, or the number that can't be written
-abbrev pub closed_answer : Result ℕ ℕ → DeckAnswer
+-- what a recording that closes is answered: its total, or the item that can't be written
+abbrev pub closed_answer : Result ℕ FailedItem → DeckAnswer
 closed_answer (Ok n) = kept_total n
-closed_answer (Err n) = refused (Unwritable n)
+closed_answer (Err e) = refused (Unwritable e.number)
 
 -- a refusal of stop, which may hand the obligation back
 abbrev pub stop_refused : StopRefusal → Refusal

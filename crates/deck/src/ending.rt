@@ -1,30 +1,19 @@
 // Where a recording goes on: the last track with cells, and how many it has.
-ghost use Rattle.std.specs.Prelude.{◌≡◌, length, if◌then◌else◌, nat_eq};
+ghost use Rattle.std.specs.Prelude.{◌≡◌, if◌then◌else◌, nat_eq};
 ghost use Rattle.qic24.specs.declared.layout.Preamble.TheVariants.{Elongated, Long};
-ghost use Rattle.tape.specs.Tape.{track};
 ghost use Rattle.deck.specs.Deck.{end_track};
 
 use qic24::Preamble;
-use tape::Reading;
-
-// The cells of a track; none where there is no such track.
-pub(crate) fn track_length<C: Reading>(cartridge: &C, on: u8) -> u32
-    ensures { result ≡ length (track (C.Reading.cells cartridge.now) on) }
-{
-    cartridge.length(on).unwrap_or(0)
-}
+use tape::{Reading, track_length};
 
 // The last track that has cells, or the first.
 pub(crate) fn end_track<C: Reading>(cartridge: &C) -> u8
     ensures { result ≡ end_track (C.Reading.cells cartridge.now) }
 {
-    let mut last = 0;
-    for on in 1..cartridge.tracks() {
-        if track_length(cartridge, on) > 0 {
-            last = on;
-        }
-    }
-    last
+    (1..cartridge.tracks())
+        .rev()
+        .find(|&on| track_length(cartridge, on) > 0)
+        .unwrap_or(0)
 }
 
 // The preamble of the first copy of a recording on a track with so many cells.

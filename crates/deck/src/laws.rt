@@ -8,6 +8,9 @@ ghost use Rattle.replay.specs.Copies.{body_cells};
 ghost use Rattle.deck.specs.Measures.{finish_room};
 ghost use Rattle.replay.specs.Seeking.{rewound_cursor};
 
+use crate::measures::FINISH_ROOM;
+use qic24::BODY;
+
 // The cells of a copy after its opening.
 pub fn copy_cells() -> u32
     ensures value { result ≡ body_cells }
@@ -18,7 +21,7 @@ pub fn copy_cells() -> u32
     ensures clear { NeverOverlap }
     ensures good { SoundForGood }
 {
-    5_180
+    BODY as u32
 }
 
 // The number that a replay expects first.
@@ -38,5 +41,5 @@ pub fn room_to_finish() -> u32
     ensures room { RoomToFinish }
     ensures agreement { ListAndTape }
 {
-    83_220
+    FINISH_ROOM
 }

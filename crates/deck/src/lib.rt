@@ -2,21 +2,18 @@
 
 #![tactic(auto)]
 
-mod changing;
-mod checking;
 mod deck;
 mod ending;
+mod failed;
+mod head;
 mod laws;
+mod measures;
 mod next;
 mod obligation;
 mod pending;
 mod phase;
 mod refusal;
-mod rewriting;
-mod room;
-mod sending;
 mod session;
-mod wholeness;
 
 pub use deck::Deck;
 pub use laws::{copy_cells, first_number, room_to_finish};

@@ -1,6 +1,6 @@
 // What next hands out.
 
-#[derive(Clone, Copy)]
+#[derive(Clone, Copy, PartialEq, Eq, Debug)]
 pub enum Next {
     // The block of this number; its bytes are in the buffer.
     Block { number: u32 },

@@ -2,21 +2,21 @@
 ghost use Rattle.std.specs.Prelude.{◌≡◌, true, false, IfErr, Ok, Err, MatchResult, OnOk, ◌≢◌};
 ghost use Rattle.replay.specs.Seeking.{rewound_cursor};
 ghost use Rattle.deck.specs.Calls.{begin_call, write_call, mark_call, stop_call};
-ghost use Rattle.deck.specs.CallContract.{CallHad};
+ghost use Rattle.deck.specs.CallContract.{Had, CallHad};
 ghost use Rattle.deck.specs.Ending.{is_open, TakenBack};
 ghost use Rattle.deck.specs.Refusals.{refusal_number, stop_number, begun_answer, taken_answer, stopped_answer, stopped_cursor};
 ghost use Rattle.deck.specs.State.{deck_state};
+ghost use Rattle.deck.specs.Taking.{takes_content};
+ghost use Rattle.replay.specs.Scan.{stands};
 
 use crate::deck::Deck;
+use crate::measures::{BLOCK, ITEM_ROOM};
 use crate::obligation::{Obligation, StopRefusal};
 use crate::refusal::Refusal;
-use crate::room::ITEM_ROOM;
 use crate::session::Session;
 use qic24::Content;
 use replay::{ReplayCursor, next_number};
 use tape::{Reading, Recording};
-
-const BLOCK: usize = 512;
 
 impl<C: Recording> Deck<C> {
     // Opens a recording after what is on the tape; answers the next number.
@@ -44,17 +44,11 @@ impl<C: Recording> Deck<C> {
         ensures cursor { self.new.cursor ≡ self.old.cursor }
         ensures kept { IfErr result (λ e. (refusal_number e ≢ 14) → self.new ≡ self.old) }
     {
-        let Some(mut session) = self.session else {
+        if !self.is_recording() {
             return Err(Refusal::NotRecording);
-        };
-        if block.len() != BLOCK {
-            return Err(Refusal::WrongSize);
         }
-        let mut bytes = [0; BLOCK];
-        bytes.copy_from_slice(block);
-        let answer = session.take(&mut self.cartridge, &Content::Block(bytes));
-        self.session = Some(session);
-        answer
+        let bytes = <[u8; BLOCK]>::try_from(block).map_err(|_| Refusal::WrongSize)?;
+        self.take(&Content::Block(bytes))
     }
 
     // Records a file mark; answers its number.
@@ -64,12 +58,18 @@ impl<C: Recording> Deck<C> {
         ensures cursor { self.new.cursor ≡ self.old.cursor }
         ensures kept { IfErr result (λ e. (refusal_number e ≢ 14) → self.new ≡ self.old) }
     {
-        let Some(mut session) = self.session else {
-            return Err(Refusal::NotRecording);
-        };
-        let answer = session.take(&mut self.cartridge, &Content::Mark);
-        self.session = Some(session);
-        answer
+        self.take(&Content::Mark)
+    }
+
+    // Records an item that holds this; answers its number.
+    fn take(&mut self, content: &Content) -> Result<u32, Refusal>
+        ensures had { Had C.Reading.takes self.old.cartridge self.new.cartridge (deck_state self.new.session) (taken_answer result) (takes_content (C.Reading.room self.old.cartridge) (C.Reading.cells self.old.cartridge) (stands (C.Reading.cells self.new.cartridge)) (deck_state self.old.session) content.now) }
+        ensures open { is_open (deck_state self.new.session) ≡ is_open (deck_state self.old.session) }
+        ensures cursor { self.new.cursor ≡ self.old.cursor }
+        ensures kept { IfErr result (λ e. (refusal_number e ≢ 14) → self.new ≡ self.old) }
+    {
+        let session = self.session.as_mut().ok_or(Refusal::NotRecording)?;
+        session.take(&mut self.cartridge, content)
     }
 
     // Closes the recording and takes the obligation back; answers how many items it kept.
@@ -80,15 +80,11 @@ impl<C: Recording> Deck<C> {
         ensures cursor { self.new.cursor ≡ stopped_cursor self.old.cursor result }
         ensures kept { IfErr result (λ e. (stop_number e ≢ 14) → self.new ≡ self.old) }
     {
-        let Some(session) = self.session else {
+        let Some(session) = self.session.take() else {
             return Err(StopRefusal::NotRecording(obligation));
         };
         let Obligation { open: () } = obligation;
-        self.session = None;
         self.cursor = ReplayCursor::rewound();
-        match session.close(&mut self.cartridge) {
-            Ok(kept) => Ok(kept),
-            Err(number) => Err(StopRefusal::Unwritable(number)),
-        }
+        Ok(session.close(&mut self.cartridge)?)
     }
 }

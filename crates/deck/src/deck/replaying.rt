@@ -5,13 +5,12 @@ ghost use Rattle.deck.specs.NextCall.{handed, filled, next_does, rewind_answer};
 ghost use Rattle.deck.specs.State.{deck_state};
 
 use crate::deck::Deck;
+use crate::measures::BLOCK;
 use crate::next::Next;
 use crate::refusal::Refusal;
 use qic24::{Content, Item};
 use replay::{Found, ReplayCursor, next_item};
 use tape::Reading;
-
-const BLOCK: usize = 512;
 
 impl<C: Reading> Deck<C> {
     // Goes back to number 1 at the start of the tape.

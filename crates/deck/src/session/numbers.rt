@@ -38,7 +38,7 @@ impl Session {
         ensures { option_map held result ≡ unchecked_item self.now.next self.now.phase }
     {
         match &self.phase {
-            Phase::Unchecked(pending) => Item::new(self.next - 1, pending.content()),
+            Phase::Unchecked(pending) => Item::new(self.next - 1, Content::from(pending)),
             Phase::Clear | Phase::Failed(_) => None,
         }
     }

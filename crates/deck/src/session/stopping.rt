@@ -7,16 +7,15 @@ ghost use Rattle.deck.specs.Refusals.{closed_answer};
 ghost use Rattle.deck.specs.State.{session_state};
 
 use super::Session;
-use super::taking::FINISH_ROOM;
-use crate::ending::end_track;
+use crate::failed::FailedItem;
+use crate::head::Head;
+use crate::measures::FINISH_ROOM;
 use crate::phase::Phase;
-use crate::rewriting::finish;
-use crate::room::room_left;
 use tape::{Reading, Recording};
 
 impl Session {
-    // Finishes what is unchecked; answers how many items the recording kept, or the number of one that can't be written.
-    pub(crate) fn close<C: Recording>(&self, cartridge: &mut C) -> Result<u32, u32>
+    // Finishes what is unchecked; answers how many items the recording kept, or fails with the item that can't be written.
+    pub(crate) fn close<C: Recording>(&self, cartridge: &mut C) -> Result<u32, FailedItem>
         ensures { Had C.Reading.takes cartridge.old cartridge.new deck_idle (closed_answer result) (stop_does (C.Reading.room cartridge.old) (C.Reading.cells cartridge.old) (stands (C.Reading.cells cartridge.new)) (session_state self.now)) }
     {
         if let Phase::Failed(_) = self.phase {
@@ -25,13 +24,11 @@ impl Session {
         let Some(pending) = self.unchecked() else {
             return Ok(self.taken());
         };
-        let on = end_track(cartridge);
-        if room_left(cartridge, on) < FINISH_ROOM {
-            return Err(pending.number());
+        let mut head = Head::at_end(cartridge);
+        if head.room_left() < FINISH_ROOM {
+            return Err(FailedItem::from(&pending));
         }
-        if !finish(cartridge, on, &pending) {
-            return Err(pending.number());
-        }
+        head.finish(&pending)?;
         Ok(self.taken())
     }
 }

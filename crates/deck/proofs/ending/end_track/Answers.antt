@@ -1,16 +1,13 @@
-use Rattle.std.proofs.Common.{ℕ, ◌+◌, sym, subst, arith}
-use Rattle.deck.proofs.TapeEnds.{LastSoFar, last_more, last-passed, last-all}
+use Rattle.std.proofs.Common.{length, ◌∙◌, ap, arith, rules}
+use Rattle.tape.proofs.Tapes.{track-none}
+use Rattle.deck.proofs.TracksBack.{found_back}
 use Rattle.deck.proofs.ending.end_track.Goals as goal
-use Rattle.deck.proofs.ending.end_track.Goals.{then-track_length-gt0, else-track_length-gt0}
-
-pub loop-on-preserved : goal.loop-on-preserved
-loop-on-preserved g c =
-    let cells = g.C.Reading.cells c.args.cartridge.now in
-    let told = c.track_length.ensures in
-    elim c.if-track_length-gt0.branch [
-      | then-track_length-gt0 w ↦ subst (λ (t : ℕ). LastSoFar cells t (c.loop-on.on + 1)) (sym w.last-is) (last_more cells c.loop-on.on (omega arith))
-      | else-track_length-gt0 w ↦ subst (λ (t : ℕ). LastSoFar cells t (c.loop-on.on + 1)) (sym w.last-is) (last-passed cells c.loop-on.last c.loop-on.on c.loop-on.invariant (omega arith))
-    ]
+use borrow.Author.Tests.{tests}
 
 pub returns : goal.returns
-returns g c = last-all (g.C.Reading.cells c.args.cartridge.now) c.loop-on.last c.loop-on.on c.loop-on.invariant (omega arith)
+returns g c =
+    let cells = g.C.Reading.cells c.args.cartridge.now in
+    let ran = c.find.ensures.ran in
+    let from = c.rev.ensures.source in
+    c.unwrap_or.ensures ∙
+    found_back cells _ _ (λ x b q k. search (rules, tests)) ran.0 _ _ _ c.find.result ran.1 (ap (λ r. r.start) from) (λ t l. ap length (track-none cells t (omega (arith, ap (λ r. r.end) from, c.tracks.ensures)))) ran.2.1 ran.2.2 ran.3 ran.4
