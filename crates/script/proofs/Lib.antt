@@ -1,5 +1,4 @@
 pub mod Operands
-pub mod First
 pub mod Exact
 pub mod Steps
 pub mod Whole

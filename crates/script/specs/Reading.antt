@@ -18,6 +18,11 @@ told (Ok None) = end
 told (Ok (Some c)) = next (said c)
 told (Err e) = refused e
 
+-- a command that was read, or the refusal in its place
+abbrev pub answered : Result Command Refusal → Answer
+answered (Ok c) = next (said c)
+answered (Err e) = refused e
+
 -- an instruction whose operands are the first `size` of some bytes, unless the script ends before
 abbrev pub holding : ℕ → List ℕ → Instruction → Answer
 holding size rest i = cond (nat_le size (length rest)) (next i) (refused CutShort)

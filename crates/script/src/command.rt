@@ -2,7 +2,7 @@
 ghost use Rattle.std.specs.Prelude.{◌≡◌, length};
 ghost use Rattle.script.specs.Instructions.{said, written};
 
-// The byte that each command begins with.
+// The byte that each command begins with. Numbers, since a script is bytes; what is read is a Command.
 pub(crate) const WRITE: u8 = 0x01;
 
 pub(crate) const MARK: u8 = 0x02;
@@ -38,6 +38,7 @@ impl Command<'_> {
         ensures { result ≡ length (written (said self.entry)) }
     {
         match self {
+            // as a slice, since a proof then knows the length
             Command::Write(block) => 1 + block.as_slice().len(),
             Command::Flaw { .. } => 1 + 1 + 4 + 2,
             Command::Mark | Command::Begin | Command::Stop | Command::Replay | Command::Survey => 1,

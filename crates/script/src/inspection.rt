@@ -5,7 +5,7 @@ ghost use Rattle.script.specs.Readouts.{read_out, inspected, WrittenThenRead, Re
 use crate::reader::Reader;
 use crate::refusal::Refusal;
 
-// How many commands a script holds, the place where reading ended, and the refusal there, or none at the script's end.
+// No Result, since count and place are told beside a refusal too: how many commands a script holds, the place where reading ended, and the refusal there, or none at the script's end.
 #[derive(Clone, Copy, Debug)]
 pub struct Inspection {
     pub commands: usize,
@@ -23,10 +23,8 @@ pub fn inspect(script: &[u8]) -> Inspection
     let mut commands = 0;
     let refusal = loop {
         match reader.next_command() {
-            Ok(next) => match next {
-                Some(_) => commands += 1,
-                None => break None,
-            },
+            Ok(Some(_)) => commands += 1,
+            Ok(None) => break None,
             Err(refusal) => break Some(refusal),
         }
     };

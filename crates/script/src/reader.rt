@@ -1,9 +1,9 @@
 // Reads a script command by command.
 ghost use Rattle.std.specs.Prelude.{◌≡◌, ℕ, ◌+◌, ◌<◌, ◌≤◌, ◌++◌, length, drop, Ok, slice_index};
-ghost use Rattle.script.specs.Reading.{told, at_byte, read, taken};
+ghost use Rattle.script.specs.Reading.{told, answered, at_byte, read, taken};
 ghost use Rattle.script.specs.Fronts.{OnlyAnswer};
 
-use crate::command::{BEGIN, BLOCK, Command, FLAW, MARK, REPLAY, STOP, SURVEY, WRITE};
+use crate::command::{BEGIN, Command, FLAW, MARK, REPLAY, STOP, SURVEY, WRITE};
 use crate::refusal::Refusal;
 
 // A script that is lent, and the place of its next command.
@@ -32,7 +32,7 @@ impl<'a> Reader<'a> {
         ensures exact { OnlyAnswer (drop self.old.place self.old.script.now) (told result) }
     {
         let next = first_command(&self.script[self.place..])?;
-        self.place += bytes_taken(next);
+        self.place += next.map_or(0, Command::size);
         Ok(next)
     }
 
@@ -44,16 +44,6 @@ impl<'a> Reader<'a> {
     }
 }
 
-// How many bytes of the script an answer takes: a command's own, and none at the end.
-fn bytes_taken(next: Option<Command<'_>>) -> usize
-    ensures { result ≡ length (taken (told (Ok next.entry))) }
-{
-    match next {
-        Some(command) => command.size(),
-        None => 0,
-    }
-}
-
 // The command at the front of some bytes.
 fn first_command(left: &[u8]) -> Result<Option<Command<'_>>, Refusal>
     ensures command { told result ≡ read left.now }
@@ -62,38 +52,37 @@ fn first_command(left: &[u8]) -> Result<Option<Command<'_>>, Refusal>
     let [byte, operands @ ..] = left else {
         return Ok(None);
     };
-    match *byte {
-        WRITE => write_from(operands),
-        MARK => Ok(Some(Command::Mark)),
-        BEGIN => Ok(Some(Command::Begin)),
-        STOP => Ok(Some(Command::Stop)),
-        REPLAY => Ok(Some(Command::Replay)),
-        FLAW => flaw_from(operands),
-        SURVEY => Ok(Some(Command::Survey)),
-        _ => Err(Refusal::UnknownCommand),
-    }
+    let command = match *byte {
+        WRITE => write_from(operands)?,
+        MARK => Command::Mark,
+        BEGIN => Command::Begin,
+        STOP => Command::Stop,
+        REPLAY => Command::Replay,
+        FLAW => flaw_from(operands)?,
+        SURVEY => Command::Survey,
+        _ => return Err(Refusal::UnknownCommand),
+    };
+    Ok(Some(command))
 }
 
 // A write, whose block stays a part of the script.
-fn write_from(operands: &[u8]) -> Result<Option<Command<'_>>, Refusal>
-    ensures { told result ≡ at_byte 1 operands.now }
+fn write_from(operands: &[u8]) -> Result<Command<'_>, Refusal>
+    ensures { answered result ≡ at_byte 1 operands.now }
 {
-    match operands.split_first_chunk::<BLOCK>() {
-        Some((block, _)) => Ok(Some(Command::Write(block))),
-        None => Err(Refusal::CutShort),
-    }
+    let (block, _) = operands.split_first_chunk().ok_or(Refusal::CutShort)?;
+    Ok(Command::Write(block))
 }
 
 // A flaw: its track, its place in four bytes and its length in two.
-fn flaw_from(operands: &[u8]) -> Result<Option<Command<'_>>, Refusal>
-    ensures { told result ≡ at_byte 6 operands.now }
+fn flaw_from(operands: &[u8]) -> Result<Command<'_>, Refusal>
+    ensures { answered result ≡ at_byte 6 operands.now }
 {
     let [track, p0, p1, p2, p3, l0, l1, ..] = operands else {
         return Err(Refusal::CutShort);
     };
-    Ok(Some(Command::Flaw {
+    Ok(Command::Flaw {
         track: *track,
         place: u32::from_be_bytes([*p0, *p1, *p2, *p3]),
         length: u16::from_be_bytes([*l0, *l1]),
-    }))
+    })
 }

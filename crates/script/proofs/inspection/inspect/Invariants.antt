@@ -3,10 +3,10 @@ use Rattle.script.specs.Readouts.{read_out, inspected}
 use Rattle.script.proofs.Counts.{counted}
 use Rattle.script.proofs.inspection.inspect.Given as goal
 
-abbrev pub invariant-loop-next : goal.invariant-loop-next
-invariant-loop-next l =
+abbrev pub invariant-loop-commands : goal.invariant-loop-commands
+invariant-loop-commands l =
     (l.reader.script.now ≡ l.script) × (l.commands ≤ l.reader.place)
     × (counted l.commands l.reader.place (read_out (drop l.reader.place l.script)) ≡ inspected (read_out l.script))
 
-abbrev pub decreases-loop-next : goal.decreases-loop-next
-decreases-loop-next l = length l.script - l.reader.place
+abbrev pub decreases-loop-commands : goal.decreases-loop-commands
+decreases-loop-commands l = length l.script - l.reader.place
