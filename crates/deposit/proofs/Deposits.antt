@@ -1,15 +1,12 @@
 -- A deposit: two operators in turn, and what a new cartridge then replays.
-use Rattle.std.proofs.Common.{◌≡◌, ℕ, Bool, false, List, ◌++◌, Ok, Err, Result, sym, ap, ◌∙◌, subst}
-use Rattle.std.proofs.lemmas.Bool.{cond-false}
+use Rattle.std.proofs.Common.{◌≡◌, ℕ, Bool, List, ◌++◌, Ok, Err, Result, ap, ◌∙◌, subst}
 use Rattle.tape.specs.Tape.{Tape, blank}
 use Rattle.replay.specs.Copies.{OfCartridge, NoFalseCopy}
 use Rattle.replay.specs.Replay.{ReplayState, replay_items}
 use Rattle.replay.specs.Seeking.{FindResult, found_item, found_end, found_beyond, tape_replay, ending}
 use Rattle.deck.specs.CallsMade.{Made}
 use Rattle.deck.specs.Deck.{deck_idle}
-use Rattle.deck.specs.Ending.{is_open, ended}
-use Rattle.deck.specs.State.{deck_state}
-use Rattle.deck.specs.declared.deck.Deck.{Deck}
+use Rattle.replay.specs.declared.unlocated.UnlocatedNumber.{UnlocatedNumber}
 use Rattle.deck.specs.Agreement.{Deposit}
 use Rattle.deposit.specs.Depositing.{TwoOperators, KeptThenEnd}
 use Rattle.deposit.specs.OperatorCalls.{calls_by}
@@ -18,36 +15,28 @@ use Rattle.deposit.specs.WholeReplay.{end_found, Replays}
 use Rattle.deposit.specs.declared.call.Call.{Call}
 use Rattle.deposit.specs.declared.call.Operated.{Operated}
 use Rattle.deposit.specs.declared.replaying.ReplayEnd.{ReplayEnd}
-use Rattle.deposit.specs.declared.replaying.ReplayEnd.TheVariants.{End, Unlocated}
 use Rattle.deposit.specs.declared.replaying.Replayed.{Replayed}
 use Rattle.deck.proofs.Agreeing.{handed_over}
 
--- the cartridge of a deck with no recording open
-pub taken_out : {S : Type 0} (d : Deck S) (s : S) → is_open (deck_state d.session) ≡ false → Ok s ≡ ended d → s ≡ d.cartridge
-taken_out {S} d s i e = ap (λ (r : Result S (Deck S)). elim r [ Ok x ↦ x | Err y ↦ s ]) (e ∙ cond-false (is_open (deck_state d.session)) (Err d) (Ok d.cartridge) i)
-
--- from a cartridge by the deck that is made of it to the one that is taken out
-pub in_turn : {S : Type 0} (room : S → ℕ) (cells : S → Tape) (start made middle end last : S) (one : List Call) (a : Operated) (two : List Call) (b : Operated)
-    → made ≡ start → Operates (room made) (cells made) one a (cells middle) → room middle ≡ room made → Operates (room middle) (cells middle) two b (cells end) → last ≡ end
-    → TwoOperators (room start) (cells start) one a two b (cells last)
-in_turn {S} room cells start made middle end last one a two b e h same k l = record {
+-- the second takes the cartridge over from the first
+pub in_turn : {S : Type 0} (room : S → ℕ) (cells : S → Tape) (start middle end : S) (one : List Call) (a : Operated) (two : List Call) (b : Operated)
+    → Operates (room start) (cells start) one a (cells middle) → room middle ≡ room start → Operates (room middle) (cells middle) two b (cells end)
+    → TwoOperators (room start) (cells start) one a two b (cells end)
+in_turn room cells start middle end one a two b h same k = record {
   middle = cells middle;
-  by_one = subst (λ (s : S). Operates (room s) (cells s) one a (cells middle)) e h;
-  by_two = subst (λ (s : S). Operates (room start) (cells middle) two b (cells s)) (sym l) (subst (λ (n : ℕ). Operates n (cells middle) two b (cells end)) (same ∙ ap room e) k);
+  by_one = h;
+  by_two = subst (λ (n : ℕ). Operates n (cells middle) two b (cells end)) same k;
 }
 
-pub same_room : {S : Type 0} (room : S → ℕ) (start made middle end last : S) → made ≡ start → room middle ≡ room made → room end ≡ room middle → last ≡ end → room last ≡ room start
-same_room room start made middle end last e h k l = ap room l ∙ (k ∙ (h ∙ ap room e))
-
 -- the end that was found
-abbrev found_there : Bool → FindResult → ReplayEnd
-found_there b (found_item f) = End b
-found_there b (found_end passed) = End passed
-found_there b (found_beyond w) = Unlocated w
+abbrev found_there : Bool → FindResult → Result ReplayEnd UnlocatedNumber
+found_there b (found_item f) = Ok (record { passed = b })
+found_there b (found_end passed) = Ok (record { passed = passed })
+found_there b (found_beyond w) = Err w
 
-same_end : (e : ReplayEnd) (passed : Bool) → end_found e ≡ found_end passed → e ≡ End passed
-same_end (End b) passed h = ap (found_there passed) h
-same_end (Unlocated w) passed h = ap (found_there passed) h
+same_end : (e : Result ReplayEnd UnlocatedNumber) (passed : Bool) → end_found e ≡ found_end passed → e ≡ Ok (record { passed = passed })
+same_end (Ok e) passed h = ap (found_there passed) h
+same_end (Err w) passed h = ap (found_there passed) h
 
 -- on a new cartridge, where no false copy stands, the run is a deposit as the agreement speaks of it
 pub deposit_made : (room : ℕ) (before : Tape) (one : List Call) (a : Operated) (two : List Call) (b : Operated) (after : Tape) (w : TwoOperators room before one a two b after) (tracks : ℕ)

@@ -1,5 +1,5 @@
 -- Calls that are made one after the other, joined.
-use Rattle.std.proofs.Common.{◌≡◌, ℕ, ◌+◌, true, false, List, [], ◌∷◌, ◌++◌, length, is_some, Some, None, vec_items, Option, sym, refl, ap, ◌∙◌, subst, append_assoc, append-nil, arith, length-append}
+use Rattle.std.proofs.Common.{◌≡◌, ℕ, ◌+◌, false, List, [], ◌∷◌, ◌++◌, length, is_some, Some, None, vec_items, Option, Result, IfSome, IfNone, sym, refl, ap, ◌∙◌, subst, append_assoc, append-nil, arith, length-append}
 use Rattle.tape.specs.Tape.{Tape}
 use Rattle.replay.specs.Copies.{CopyAt}
 use Rattle.deck.specs.Calls.{DeckCall, stop_call, DeckAnswer, AnsweredCall}
@@ -8,9 +8,10 @@ use Rattle.deck.specs.CallsMade.{outcome, Made, no_call, call_more}
 use Rattle.deck.specs.Deck.{DeckState, deck_idle, deck_recording}
 use Rattle.deck.specs.Ending.{is_open}
 use Rattle.deck.proofs.Media.{Medium, sent_grown, sent-room}
-use Rattle.deposit.specs.OperatorCalls.{call_of, answer_of, answered_calls, closing_stop}
+use Rattle.deck.specs.declared.refusal.Refusal.{Refusal}
+use Rattle.operator.specs.Stopping.{kept_answer}
+use Rattle.deposit.specs.OperatorCalls.{Answer, call_of, answer_of, answered_calls, closing_stop}
 use Rattle.deposit.specs.Operating.{CallsMade, Operates}
-use Rattle.deposit.specs.declared.call.Answer.{Answer}
 use Rattle.deposit.specs.declared.call.Call.{Call}
 use Rattle.deposit.specs.declared.call.Operated.{Operated}
 
@@ -78,33 +79,34 @@ more_made C first before after s t cs as' c a same w h =
       made = subst (λ (z : List AnsweredCall). Made (C.room first) (C.cells first) deck_idle z log (C.cells after) t) (sym (answered-more cs as' c a w.each)) d;
     }
 
--- the calls left no recording open
-pub left_idle : (room : ℕ) (before after : Tape) (calls : List Call) (o : Operated) (s : DeckState) → CallsMade room before calls (vec_items o.answers) after s → o.closing ≡ None → is_open s ≡ false → Operates room before calls o after
-left_idle room before after calls o s w e i = record {
-  last = after;
-  left = s;
-  calls_made = w;
-  left_open = ap is_some e ∙ sym i;
-  log = w.log;
-  made =
-      subst (λ (z : Option Answer). Made room before deck_idle (answered_calls calls (vec_items o.answers) ++ closing_stop z) w.log after deck_idle) (sym e)
-      (subst (λ (z : List AnsweredCall). Made room before deck_idle z w.log after deck_idle) (sym (append-nil (answered_calls calls (vec_items o.answers))))
-      (subst (λ (u : DeckState). Made room before deck_idle (answered_calls calls (vec_items o.answers)) w.log after u) (idle_state s i) w.made));
-}
-
--- they left one open, and it was stopped
-pub left_stopped : {S : Type 0} (C : Medium S) (first before after : S) (calls : List Call) (o : Operated) (s t : DeckState) (a : Answer)
-    → C.room before ≡ C.room first → CallsMade (C.room first) (C.cells first) calls (vec_items o.answers) (C.cells before) s → o.closing ≡ Some a → is_open s ≡ true → is_open t ≡ false
-    → CallHad C.room C.cells C.takes before after s t stop_call (answer_of a)
-    → Operates (C.room first) (C.cells first) calls o (C.cells after)
-left_stopped C first before after calls o s t a same w e i j h =
-    let (log, d) = made_snoc C first before after deck_idle s t (answered_calls calls (vec_items o.answers)) stop_call (answer_of a) same w.log w.made h in record {
-      last = C.cells before;
-      left = s;
-      calls_made = w;
-      left_open = ap is_some e ∙ sym i;
-      log = log;
-      made =
-          subst (λ (z : Option Answer). Made (C.room first) (C.cells first) deck_idle (answered_calls calls (vec_items o.answers) ++ closing_stop z) log (C.cells after) deck_idle) (sym e)
-          (subst (λ (u : DeckState). Made (C.room first) (C.cells first) deck_idle (answered_calls calls (vec_items o.answers) ++ closing_stop (Some a)) log (C.cells after) u) (idle_state t j) d);
-    }
+-- the calls are all made: a recording that they left open was stopped, and where they left none, nothing was done
+pub operated : {S : Type 0} (C : Medium S) (first last end : S) (calls : List Call) (o : Operated) (s : DeckState)
+    → C.room last ≡ C.room first → CallsMade (C.room first) (C.cells first) calls (vec_items o.answers) (C.cells last) s → (closing : Option (Result ℕ Refusal)) → o.closing ≡ closing → is_some closing ≡ is_open s
+    → IfSome closing (λ kept. CallHad C.room C.cells C.takes last end s deck_idle stop_call (kept_answer kept)) → IfNone closing (end ≡ last)
+    → Operates (C.room first) (C.cells first) calls o (C.cells end) × (C.room end ≡ C.room first)
+operated {S} C first last end calls o s same w None e i had stays = (
+  subst (λ (z : S). Operates (C.room first) (C.cells first) calls o (C.cells z)) (sym stays) (record {
+    last = C.cells last;
+    left = s;
+    calls_made = w;
+    left_open = ap is_some e ∙ i;
+    log = w.log;
+    made =
+        subst (λ (z : Option (Result ℕ Refusal)). Made (C.room first) (C.cells first) deck_idle (answered_calls calls (vec_items o.answers) ++ closing_stop z) w.log (C.cells last) deck_idle) (sym e)
+        (subst (λ (z : List AnsweredCall). Made (C.room first) (C.cells first) deck_idle z w.log (C.cells last) deck_idle) (sym (append-nil (answered_calls calls (vec_items o.answers))))
+        (subst (λ (u : DeckState). Made (C.room first) (C.cells first) deck_idle (answered_calls calls (vec_items o.answers)) w.log (C.cells last) u) (idle_state s (sym i)) w.made));
+  }),
+  ap C.room stays ∙ same,
+)
+operated {S} C first last end calls o s same w (Some a) e i had stays =
+    let (log, d) = made_snoc C first last end deck_idle s deck_idle (answered_calls calls (vec_items o.answers)) stop_call (kept_answer a) same w.log w.made had in (
+      record {
+        last = C.cells last;
+        left = s;
+        calls_made = w;
+        left_open = ap is_some e ∙ i;
+        log = log;
+        made = subst (λ (z : Option (Result ℕ Refusal)). Made (C.room first) (C.cells first) deck_idle (answered_calls calls (vec_items o.answers) ++ closing_stop z) log (C.cells end) deck_idle) (sym e) d;
+      },
+      call-room C last end s deck_idle stop_call (kept_answer a) had ∙ same,
+    )

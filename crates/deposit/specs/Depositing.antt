@@ -1,5 +1,5 @@
 -- Two operators that record on one cartridge, and what its replay then hands out.
-use Rattle.std.specs.Prelude.{◌≡◌, ℕ, Bool, List, ◌++◌, map, vec_items}
+use Rattle.std.specs.Prelude.{◌≡◌, ℕ, Bool, List, ◌++◌, map, Ok, vec_items}
 use Rattle.qic24.specs.Copy.{held}
 use Rattle.tape.specs.Tape.{Tape, blank}
 use Rattle.replay.specs.Copies.{NoFalseCopy}
@@ -8,7 +8,6 @@ use Rattle.deposit.specs.OperatorCalls.{calls_by}
 use Rattle.deposit.specs.Operating.{Operates}
 use Rattle.deposit.specs.declared.call.Call.{Call}
 use Rattle.deposit.specs.declared.call.Operated.{Operated}
-use Rattle.deposit.specs.declared.replaying.ReplayEnd.TheVariants.{End}
 use Rattle.deposit.specs.declared.replaying.Replayed.{Replayed}
 
 -- the second takes over where the first has stopped
@@ -21,4 +20,4 @@ pub record TwoOperators (room : ℕ) (before : Tape) (one : List Call) (a : Oper
 abbrev pub KeptThenEnd : ℕ → Tape → List Call → Operated → List Call → Operated → Tape → Replayed → Type 0
 KeptThenEnd room before one a two b after p =
     (w : TwoOperators room before one a two b after) (tracks : ℕ) → before ≡ blank tracks → NoFalseCopy after (w.by_one.log ++ w.by_two.log) →
-    (map held (vec_items p.items) ≡ kept_by_both (calls_by one a) (calls_by two b)) × ((passed : Bool) × (p.ending ≡ End passed))
+    (map held (vec_items p.items) ≡ kept_by_both (calls_by one a) (calls_by two b)) × ((passed : Bool) × (p.ending ≡ Ok (record { passed = passed })))

@@ -5,8 +5,7 @@ use Rattle.replay.specs.Copies.{CopyAt}
 use Rattle.deck.specs.CallsMade.{Made}
 use Rattle.deck.specs.Deck.{DeckState, deck_idle}
 use Rattle.deck.specs.Ending.{is_open}
-use Rattle.deposit.specs.OperatorCalls.{answered_calls, calls_by}
-use Rattle.deposit.specs.declared.call.Answer.{Answer}
+use Rattle.deposit.specs.OperatorCalls.{Answer, answered_calls, calls_by}
 use Rattle.deposit.specs.declared.call.Call.{Call}
 use Rattle.deposit.specs.declared.call.Operated.{Operated}
 

@@ -9,18 +9,20 @@ pub enum Call<'a> {
     Stop,
 }
 
+// What a call answers that is not refused.
 #[derive(Clone, Copy)]
-pub enum Answer {
+pub enum Taken {
     // The number that begin, write and mark answer.
     Next(u32),
     // How many items a recording kept.
     Kept(u32),
-    Refused(Refusal),
 }
+
+pub type Answer = Result<Taken, Refusal>;
 
 // The answers to the calls of an operator, and to the stop that closes a recording which they leave open.
 #[derive(Drop)]
 pub struct Operated {
     pub answers: Vec<Answer>,
-    pub closing: Option<Answer>,
+    pub closing: Option<Result<u32, Refusal>>,
 }

@@ -7,7 +7,6 @@ ghost use Rattle.deposit.specs.WholeReplay.{Replays};
 use crate::call::{Call, Operated};
 use crate::operating::operate;
 use crate::replaying::{Replayed, replay_all};
-use deck::Deck;
 use std::alloc::{AllocError, AllocFailed, Global};
 use tape::{Reading, Recording};
 
@@ -20,7 +19,7 @@ pub struct Deposited<C> {
     pub replay: Result<Replayed, AllocError>,
 }
 
-// Makes a deck of the cartridge, and lets the operators make their calls in turn. The memory for the answers is asked for first, and without it the cartridge is handed back untouched.
+// Lets the operators make their calls in turn, each of a deck that is made of the cartridge. The memory for the answers is asked for first, and without it the cartridge is handed back untouched.
 pub(crate) fn deposit<C: Recording>(
     cartridge: C,
     one: &[Call<'_>],
@@ -32,19 +31,15 @@ pub(crate) fn deposit<C: Recording>(
     ensures replay { IfOk result (λ d. IfOk d.replay (λ p. Replays p (tape_replay (C.Reading.cells d.cartridge)))) }
     ensures kept { IfOk result (λ d. IfOk d.replay (λ p. KeptThenEnd (C.Reading.room cartridge) (C.Reading.cells cartridge) one.now d.one two.now d.two (C.Reading.cells d.cartridge) p)) }
 {
+    // no `?`: what goes back with the error is the cartridge itself
     let Ok(first) = Vec::with_capacity(heap, one.len()) else {
         return Err(AllocFailed { value: cartridge });
     };
     let Ok(second) = Vec::with_capacity(heap, two.len()) else {
         return Err(AllocFailed { value: cartridge });
     };
-    let mut deck = Deck::new(cartridge);
-    let one = operate(&mut deck, one, first);
-    let two = operate(&mut deck, two, second);
-    let cartridge = match deck.into_cartridge() {
-        Ok(cartridge) => cartridge,
-        Err(_deck) => unreachable(),
-    };
+    let (cartridge, one) = operate(cartridge, one, first);
+    let (cartridge, two) = operate(cartridge, two, second);
     let replay = replay_all(&cartridge, heap);
     Ok(Deposited {
         cartridge,

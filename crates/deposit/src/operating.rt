@@ -1,105 +1,57 @@
 // An operator's calls of a deck, one after the other.
-ghost use Rattle.std.specs.Prelude.{◌≡◌, ◌≤◌, true, false, [], length, vec_capacity};
-ghost use Rattle.deck.specs.Calls.{stop_call};
+ghost use Rattle.std.specs.Prelude.{◌≡◌, ◌≤◌, false, [], length, vec_capacity};
 ghost use Rattle.deck.specs.CallContract.{CallHad};
 ghost use Rattle.deck.specs.Ending.{is_open};
-ghost use Rattle.deck.specs.Refusals.{taken_answer};
 ghost use Rattle.deck.specs.State.{deck_state};
-ghost use Rattle.deposit.specs.OperatorCalls.{call_of, answer_of, Paired};
+ghost use Rattle.deposit.specs.OperatorCalls.{call_of, answer_of};
 ghost use Rattle.deposit.specs.Operating.{CallsMade, Operates};
 
-use crate::call::{Answer, Call, Operated};
-use deck::{Deck, Obligation, Refusal, StopRefusal};
+use crate::call::{Answer, Call, Operated, Taken};
+use operator::Operator;
 use tape::{Reading, Recording};
 
-// What write and mark answer.
-fn taken(res: Result<u32, Refusal>) -> Answer
-    ensures { answer_of result ≡ taken_answer res }
-{
-    match res {
-        Ok(number) => Answer::Next(number),
-        Err(refusal) => Answer::Refused(refusal),
-    }
-}
-
-// Stops the recording that is open.
-fn close<C: Recording>(deck: &mut Deck<C>, obligation: Obligation) -> Answer
-    requires open { is_open (deck_state deck.old.session) ≡ true }
-    ensures had { CallHad C.Reading.room C.Reading.cells C.Reading.takes deck.old.cartridge deck.new.cartridge (deck_state deck.old.session) (deck_state deck.new.session) stop_call (answer_of result) }
-    ensures closed { is_open (deck_state deck.new.session) ≡ false }
-{
-    match deck.stop(obligation) {
-        Ok(kept) => Answer::Kept(kept),
-        Err(StopRefusal::Unwritable(number)) => Answer::Refused(Refusal::Unwritable(number)),
-        Err(StopRefusal::NotRecording(_obligation)) => unreachable(),
-    }
-}
-
-// Makes one call. Without an obligation there is no recording to stop.
-fn make_call<C: Recording>(
-    deck: &mut Deck<C>,
-    held: Option<Obligation>,
-    call: Call<'_>,
-) -> (Option<Obligation>, Answer)
-    requires paired { Paired held (deck_state deck.old.session) }
-    ensures had { CallHad C.Reading.room C.Reading.cells C.Reading.takes deck.old.cartridge deck.new.cartridge (deck_state deck.old.session) (deck_state deck.new.session) (call_of call.entry) (answer_of result.1) }
-    ensures paired { Paired result.0 (deck_state deck.new.session) }
+fn make_call<C: Recording>(operator: &mut Operator<C>, call: Call<'_>) -> Answer
+    ensures { CallHad C.Reading.room C.Reading.cells C.Reading.takes operator.old.deck.cartridge operator.new.deck.cartridge (deck_state operator.old.deck.session) (deck_state operator.new.deck.session) (call_of call.entry) (answer_of result) }
 {
     match call {
-        Call::Begin => match deck.begin() {
-            Ok((next, obligation)) => match held {
-                Some(_held) => unreachable(),
-                None => (Some(obligation), Answer::Next(next)),
-            },
-            Err(refusal) => (held, Answer::Refused(refusal)),
-        },
-        Call::Write(block) => (held, taken(deck.write(block))),
-        Call::Mark => (held, taken(deck.mark())),
-        Call::Stop => match held {
-            Some(obligation) => (None, close(deck, obligation)),
-            None => (None, Answer::Refused(Refusal::NotRecording)),
-        },
+        Call::Begin => operator.begin().map(Taken::Next),
+        Call::Write(block) => operator.write(block).map(Taken::Next),
+        Call::Mark => operator.mark().map(Taken::Next),
+        Call::Stop => operator.stop().map(Taken::Kept),
     }
 }
 
 // Makes the calls, and adds the answers to a list that has room for them: no memory is asked for while a recording is open.
 fn make_calls<C: Recording>(
-    deck: &mut Deck<C>,
+    operator: &mut Operator<C>,
     calls: &[Call<'_>],
     answers: &mut Vec<Answer>,
-) -> Option<Obligation>
-    requires idle { is_open (deck_state deck.old.session) ≡ false }
+)
+    requires idle { is_open (deck_state operator.old.deck.session) ≡ false }
     requires empty { answers.old.items ≡ [] }
     requires room { length calls.now ≤ vec_capacity answers.old }
-    ensures made { CallsMade (C.Reading.room deck.old.cartridge) (C.Reading.cells deck.old.cartridge) calls.now answers.new.items (C.Reading.cells deck.new.cartridge) (deck_state deck.new.session) }
-    ensures paired { Paired result (deck_state deck.new.session) }
-    ensures same { C.Reading.room deck.new.cartridge ≡ C.Reading.room deck.old.cartridge }
+    ensures made { CallsMade (C.Reading.room operator.old.deck.cartridge) (C.Reading.cells operator.old.deck.cartridge) calls.now answers.new.items (C.Reading.cells operator.new.deck.cartridge) (deck_state operator.new.deck.session) }
+    ensures same { C.Reading.room operator.new.deck.cartridge ≡ C.Reading.room operator.old.deck.cartridge }
 {
-    let mut held = None;
     for call in calls {
-        let (left, answer) = make_call(deck, held, *call);
-        held = left;
+        let answer = make_call(operator, *call);
         let _ = answers.push(answer);
     }
-    held
 }
 
-// Makes an operator's calls, and stops a recording that they leave open.
+// Makes an operator's calls of a deck that is made of the cartridge, and stops a recording that they leave open.
 pub(crate) fn operate<C: Recording>(
-    deck: &mut Deck<C>,
+    cartridge: C,
     calls: &[Call<'_>],
     mut answers: Vec<Answer>,
-) -> Operated
-    requires idle { is_open (deck_state deck.old.session) ≡ false }
+) -> (C, Operated)
     requires empty { answers.items ≡ [] }
     requires room { length calls.now ≤ vec_capacity answers }
-    ensures made { Operates (C.Reading.room deck.old.cartridge) (C.Reading.cells deck.old.cartridge) calls.now result (C.Reading.cells deck.new.cartridge) }
-    ensures idle { is_open (deck_state deck.new.session) ≡ false }
-    ensures same { C.Reading.room deck.new.cartridge ≡ C.Reading.room deck.old.cartridge }
+    ensures made { Operates (C.Reading.room cartridge) (C.Reading.cells cartridge) calls.now result.1 (C.Reading.cells result.0) }
+    ensures same { C.Reading.room result.0 ≡ C.Reading.room cartridge }
 {
-    let closing = match make_calls(deck, calls, &mut answers) {
-        Some(obligation) => Some(close(deck, obligation)),
-        None => None,
-    };
-    Operated { answers, closing }
+    let mut operator = Operator::new(cartridge);
+    make_calls(&mut operator, calls, &mut answers);
+    let (cartridge, closing) = operator.finish();
+    (cartridge, Operated { answers, closing })
 }

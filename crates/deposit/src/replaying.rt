@@ -8,19 +8,17 @@ use replay::{Found, ReplayCursor, UnlocatedNumber, next_item};
 use std::alloc::{AllocError, Global};
 use tape::Reading;
 
-// How a replay ends.
-#[derive(Clone, Copy)]
-pub enum ReplayEnd {
-    // Nothing is left; whether the number after the expected one was passed over.
-    End { passed: bool },
-    Unlocated(UnlocatedNumber),
+// The end of a replay: nothing is left; whether the number after the expected one was passed over.
+#[derive(Clone, Copy, PartialEq, Eq, Debug)]
+pub struct ReplayEnd {
+    pub passed: bool,
 }
 
-// The items that it hands out.
+// The items that it hands out, and its end or the number that is not located.
 #[derive(Drop)]
 pub struct Replayed {
     pub items: Vec<Item>,
-    pub ending: ReplayEnd,
+    pub ending: Result<ReplayEnd, UnlocatedNumber>,
 }
 
 // Replays a tape from a rewind to its end.
@@ -31,14 +29,12 @@ pub(crate) fn replay_all<C: Reading>(cartridge: &C, heap: Global) -> Result<Repl
     let mut cursor = ReplayCursor::rewound();
     let ending = loop {
         match next_item(cartridge, &cursor) {
-            Ok(found) => match found {
-                Found::Item { item, after, .. } => {
-                    items.push(item)?;
-                    cursor = after;
-                }
-                Found::End { passed } => break ReplayEnd::End { passed },
-            },
-            Err(unlocated) => break ReplayEnd::Unlocated(unlocated),
+            Ok(Found::Item { item, after, .. }) => {
+                items.push(item)?;
+                cursor = after;
+            }
+            Ok(Found::End { passed }) => break Ok(ReplayEnd { passed }),
+            Err(unlocated) => break Err(unlocated),
         }
     };
     Ok(Replayed { items, ending })
