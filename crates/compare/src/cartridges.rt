@@ -1,112 +1,99 @@
-// Records of the cartridges.
-use crate::hash::hash_of;
-use crate::records::Records;
+// Stores, and what is done with them.
+ghost use Rattle.std.specs.Prelude.{◌≤◌, length};
+
+use crate::records::{Kind, Records, StoreCall, StoreRequest};
 use interval::IntervalStore;
 use packed::PackedStore;
-use tape::{Flaw, FlawSheet, Reading, Recording, Refusal};
+use sampling::hash_of;
+use tape::{FlawSheet, Reading, Recording, Refusal};
 
 // The longest read of a record.
 const LONGEST: usize = 8_192;
 
-pub(crate) fn show(rt: &HostRuntime, answer: Result<(), Refusal>) -> anyhow::Result<()> {
+pub(crate) fn print_done(rt: &HostRuntime, answer: Result<(), Refusal>) -> anyhow::Result<()> {
     match answer {
         Ok(()) => println!(rt; "ok")?,
-        Err(refusal) => {
-            let number = refusal.number();
-            println!(rt; "refused {number}")?;
-        }
+        Err(refusal) => println!(rt; "refused {refusal}")?,
     }
     Ok(())
 }
 
-// A, a track, a size and so many cells.
-fn append<C: Recording>(
-    rt: &HostRuntime,
-    sheet: &mut FlawSheet<C>,
-    records: &mut Records<'_>,
-) -> anyhow::Result<()> {
-    let track = records.byte();
-    show(rt, sheet.append(track, records.bytes()))
-}
-
-// R, a track, a place and a size: the hash of what the buffer holds then.
-fn read<C: Reading>(
+// The hash of what the buffer holds after a read.
+fn print_read<C: Reading>(
     rt: &HostRuntime,
     sheet: &FlawSheet<C>,
-    records: &mut Records<'_>,
+    track: u8,
+    place: u32,
+    size: u16,
 ) -> anyhow::Result<()> {
-    let track = records.byte();
-    let place = records.number(4);
-    let size = (records.number(2) as usize).min(LONGEST);
     let mut buffer = [0xA5; LONGEST];
-    let cells = &mut buffer[0..size];
+    let cells = &mut buffer[..usize::from(size).min(LONGEST)];
     let answer = sheet.read(track, place, cells);
     let hash = hash_of(cells);
     println!(rt; "cells {hash:016x}")?;
-    show(rt, answer)
+    print_done(rt, answer)
 }
 
-// L, a track.
-fn length<C: Reading>(
+fn print_length<C: Reading>(
     rt: &HostRuntime,
     sheet: &FlawSheet<C>,
-    records: &mut Records<'_>,
+    track: u8,
 ) -> anyhow::Result<()> {
-    match sheet.length(records.byte()) {
+    match sheet.length(track) {
         Ok(cells) => println!(rt; "length {cells}")?,
-        Err(refusal) => show(rt, Err(refusal))?,
+        Err(refusal) => print_done(rt, Err(refusal))?,
     }
     Ok(())
 }
 
-// F, a track, a place and a length.
-fn flaw<C: Recording>(
+fn perform<C: Recording>(
     rt: &HostRuntime,
     sheet: &mut FlawSheet<C>,
-    records: &mut Records<'_>,
+    call: StoreCall<'_>,
 ) -> anyhow::Result<()> {
-    let on = records.byte();
-    let place = records.number(4);
-    let extent = records.number(2);
-    show(rt, sheet.enter(Flaw { on, place, extent }))
+    match call {
+        StoreCall::Append { track, cells } => print_done(rt, sheet.append(track, cells)),
+        StoreCall::Read { track, place, size } => print_read(rt, sheet, track, place, size),
+        StoreCall::Length { track } => print_length(rt, sheet, track),
+        StoreCall::Flaw(flaw) => print_done(rt, sheet.enter(flaw)),
+    }
 }
 
-// The records up to the next store.
+// A store, how it was made, and what is done with it in the next records.
 fn run_on<C: Recording + Drop>(
     rt: &HostRuntime,
-    store: C,
+    made: (C, Result<(), Refusal>),
     records: &mut Records<'_>,
-) -> anyhow::Result<()> {
+) -> anyhow::Result<()>
+    ensures { length records.new.left.now ≤ length records.old.left.now }
+{
+    let (store, answer) = made;
+    print_done(rt, answer)?;
     let mut sheet = FlawSheet::new(store);
-    let tracks = sheet.tracks();
-    let capacity = sheet.capacity();
-    println!(rt; "store {tracks} {capacity}")?;
-    for _ in 0..u32::MAX {
-        match records.next_on_store() {
-            Some(b'A') => append(rt, &mut sheet, records)?,
-            Some(b'R') => read(rt, &sheet, records)?,
-            Some(b'L') => length(rt, &sheet, records)?,
-            Some(b'F') => flaw(rt, &mut sheet, records)?,
-            _ => break,
-        }
+    println!(rt; "store {} {}", sheet.tracks(), sheet.capacity())?;
+    while let Some(call) = records.next_on_store() {
+        perform(rt, &mut sheet, call)?;
     }
     Ok(())
 }
 
-// S, a kind, tracks, a capacity and a size: a store over so many bytes that are not clean.
-pub(crate) fn store_record(rt: &HostRuntime, records: &mut Records<'_>) -> anyhow::Result<()> {
-    let kind = records.byte();
-    let tracks = records.byte();
-    let capacity = records.number(4);
-    let size = (records.number(4) as usize).min(10_000_000);
-    let memory = vec![in rt.alloc(); 0xA5u8; size]?;
-    if kind == 0 {
-        let (store, answer) = PackedStore::new(memory, tracks, capacity);
-        show(rt, answer)?;
-        run_on(rt, store, records)
-    } else {
-        let (store, answer) = IntervalStore::new(memory, tracks, capacity);
-        show(rt, answer)?;
-        run_on(rt, store, records)
+// A store over so many bytes that are not clean.
+pub(crate) fn store_record(
+    rt: &HostRuntime,
+    request: StoreRequest,
+    size: u32,
+    records: &mut Records<'_>,
+) -> anyhow::Result<()>
+    ensures { length records.new.left.now ≤ length records.old.left.now }
+{
+    let memory = vec![in rt.alloc(); 0xA5u8; (size as usize).min(10_000_000)]?;
+    let StoreRequest {
+        kind,
+        tracks,
+        capacity,
+    } = request;
+    match kind {
+        Kind::Packed => run_on(rt, PackedStore::new(memory, tracks, capacity), records),
+        Kind::Interval => run_on(rt, IntervalStore::new(memory, tracks, capacity), records),
     }
 }

@@ -4,30 +4,34 @@
 
 use cartridges::store_record;
 use decks::deck_record;
-use format::{body_record, check_record, copy_record, opening_record};
-use records::Records;
+use format::{print_body, print_copy, print_opening};
+use qic24::crc;
+use records::{Record, Records};
 use std::io::Read;
 
+mod calls;
 mod cartridges;
 mod decks;
 mod format;
-mod hash;
 mod records;
 
 fn run(rt: &HostRuntime) -> anyhow::Result<()> {
     let mut input = Vec::new(rt.alloc());
     let _ = rt.stdin().read_to_end(&mut input)?;
-    let bytes = input.as_slice();
-    let mut records = Records::new(bytes);
-    for _ in 0..bytes.len() {
-        match records.next_kind() {
-            Some(b'C') => check_record(rt, &mut records)?,
-            Some(b'E') => copy_record(rt, &mut records)?,
-            Some(b'D') => body_record(rt, &mut records)?,
-            Some(b'O') => opening_record(rt, &mut records)?,
-            Some(b'S') => store_record(rt, &mut records)?,
-            Some(b'K') => deck_record(rt, &mut records)?,
-            _ => break,
+    let mut records = Records::new(input.as_slice());
+    while let Some(record) = records.next() {
+        match record {
+            Record::Check(bytes) => println!(rt; "crc {:04X}", crc(bytes))?,
+            Record::Copy {
+                preamble,
+                track,
+                number,
+                content,
+            } => print_copy(rt, preamble, track, number, content)?,
+            Record::Body { track, cells } => print_body(rt, track, cells)?,
+            Record::Opening { from, cells } => print_opening(rt, from, cells)?,
+            Record::Store { request, size } => store_record(rt, request, size, &mut records)?,
+            Record::Deck(request) => deck_record(rt, request, &mut records)?,
         }
     }
     Ok(())

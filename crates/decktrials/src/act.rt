@@ -1,10 +1,7 @@
 // What is done while a recording is open.
-ghost use Rattle.std.specs.Prelude.{◌≡◌, true};
-ghost use Rattle.deck.specs.Ending.{is_open};
-ghost use Rattle.deck.specs.State.{deck_state};
-
-use crate::show::{show_refusal, show_taken};
-use deck::{Deck, Refusal};
+use crate::show::{show_number, show_refusal};
+use deck::Refusal;
+use operator::Operator;
 use tape::{Reading, Recording};
 
 #[derive(Clone, Copy)]
@@ -22,44 +19,32 @@ pub(crate) enum Act {
 }
 
 // Marks until one is refused or there are so many; the last answer.
-fn marks<C: Recording>(deck: &mut Deck<C>, count: u32) -> Result<u32, Refusal>
-    ensures { is_open (deck_state deck.new.session) ≡ is_open (deck_state deck.old.session) }
-{
+fn marks<C: Recording>(operator: &mut Operator<C>, count: u32) -> Result<u32, Refusal> {
     let mut last = 0;
     for _ in 0..count {
-        last = deck.mark()?;
+        last = operator.mark()?;
     }
     Ok(last)
 }
 
-// Begin, while a recording is open.
-fn begin_again<C: Recording>(deck: &mut Deck<C>) -> Refusal
-    requires { is_open (deck_state deck.old.session) ≡ true }
-    ensures { is_open (deck_state deck.new.session) ≡ true }
-{
-    match deck.begin() {
-        Ok((_, _obligation)) => unreachable(),
-        Err(refusal) => refusal,
-    }
-}
-
-fn perform<C: Recording>(log: &mut String, deck: &mut Deck<C>, act: Act) -> anyhow::Result<()>
-    requires { is_open (deck_state deck.old.session) ≡ true }
-    ensures { is_open (deck_state deck.new.session) ≡ true }
-{
+pub(crate) fn perform<C: Recording>(
+    log: &mut String,
+    operator: &mut Operator<C>,
+    act: Act,
+) -> anyhow::Result<()> {
     match act {
-        Act::Marks(count) => show_taken(log, "mark", marks(deck, count)),
-        Act::Block(byte) => show_taken(log, "block", deck.write(&[byte; 512])),
-        Act::Short => show_taken(log, "block", deck.write(&[0; 511])),
-        Act::Begin => show_refusal(log, begin_again(deck)),
-        Act::Next => match deck.next(&mut [0; 512]) {
+        Act::Marks(count) => show_number(log, "mark", marks(operator, count)),
+        Act::Block(byte) => show_number(log, "block", operator.write(&[byte; 512])),
+        Act::Short => show_number(log, "block", operator.write(&[0; 511])),
+        Act::Begin => show_number(log, "begin", operator.begin()),
+        Act::Next => match operator.next(&mut [0; 512]) {
             Ok(_) => {
                 writeln!(log, "handed out")?;
                 Ok(())
             }
             Err(refusal) => show_refusal(log, refusal),
         },
-        Act::Rewind => match deck.rewind() {
+        Act::Rewind => match operator.rewind() {
             Ok(()) => {
                 writeln!(log, "rewound")?;
                 Ok(())
@@ -67,21 +52,4 @@ fn perform<C: Recording>(log: &mut String, deck: &mut Deck<C>, act: Act) -> anyh
             Err(refusal) => show_refusal(log, refusal),
         },
     }
-}
-
-// All of it after begin, which answered this number.
-pub(crate) fn perform_all<C: Recording>(
-    log: &mut String,
-    deck: &mut Deck<C>,
-    number: u32,
-    acts: &[Act],
-) -> anyhow::Result<()>
-    requires { is_open (deck_state deck.old.session) ≡ true }
-    ensures { is_open (deck_state deck.new.session) ≡ true }
-{
-    writeln!(log, "begin {number}")?;
-    for act in acts {
-        perform(log, deck, *act)?;
-    }
-    Ok(())
 }

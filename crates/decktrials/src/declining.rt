@@ -1,9 +1,12 @@
 // The calls that a deck declines.
+ghost use Rattle.std.specs.Prelude.{◌≡◌, true};
+ghost use Rattle.deck.specs.Ending.{is_open};
+ghost use Rattle.deck.specs.State.{deck_state};
+
 use crate::act::Act;
-use crate::operate::close;
-use crate::show::{show_refusal, show_taken};
+use crate::show::{show_number, show_refusal};
 use crate::trial::Trial;
-use deck::{Deck, Obligation, StopRefusal};
+use deck::{Deck, Obligation, Refusal, StopRefusal};
 use packed::PackedStore;
 use tape::{Reading, Recording};
 
@@ -15,15 +18,26 @@ fn deck(rt: &HostRuntime) -> anyhow::Result<Deck<PackedStore>> {
 
 // With no recording open.
 fn while_idle(log: &mut String, deck: &mut Deck<PackedStore>) -> anyhow::Result<()> {
-    show_taken(log, "mark", deck.mark())?;
-    show_taken(log, "block", deck.write(&[1; 512]))?;
-    show_taken(log, "block", deck.write(&[1; 511]))?;
+    show_number(log, "mark", deck.mark())?;
+    show_number(log, "block", deck.write(&[1; 512]))?;
+    show_number(log, "block", deck.write(&[1; 511]))?;
     match deck.next(&mut [0; 511]) {
         Ok(_) => {
             writeln!(log, "handed out")?;
             Ok(())
         }
         Err(refusal) => show_refusal(log, refusal),
+    }
+}
+
+// Stops a recording that is open; by hand, since an operator hands its obligation to no other deck.
+fn close(deck: &mut Deck<PackedStore>, obligation: Obligation) -> Result<u32, Refusal>
+    requires { is_open (deck_state deck.old.session) ≡ true }
+{
+    match deck.stop(obligation) {
+        Ok(kept) => Ok(kept),
+        Err(StopRefusal::Unwritable(number)) => Err(Refusal::Unwritable(number)),
+        Err(StopRefusal::NotRecording(_obligation)) => unreachable(),
     }
 }
 
@@ -36,12 +50,12 @@ fn stop_elsewhere(
     match deck.begin() {
         Err(refusal) => show_refusal(log, refusal),
         Ok((_, obligation)) => match other.stop(obligation) {
-            Ok(kept) => show_taken(log, "stop", Ok(kept)),
-            Err(StopRefusal::Unwritable(number)) => show_taken(log, "unwritable", Ok(number)),
+            Ok(kept) => show_number(log, "stop", Ok(kept)),
+            Err(StopRefusal::Unwritable(number)) => show_number(log, "unwritable", Ok(number)),
             Err(StopRefusal::NotRecording(back)) => {
                 let kept = close(deck, back);
                 writeln!(log, "handed back")?;
-                show_taken(log, "stop", kept)
+                show_number(log, "stop", kept)
             }
         },
     }

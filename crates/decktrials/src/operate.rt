@@ -1,58 +1,31 @@
 // A deck that is operated: its recordings, its replay, and the cells that they leave.
-ghost use Rattle.std.specs.Prelude.{◌≡◌, true};
-ghost use Rattle.deck.specs.Ending.{is_open};
-ghost use Rattle.deck.specs.State.{deck_state};
-
-use crate::act::{Act, perform_all};
-use crate::show::{show_refusal, show_taken};
-use deck::{Deck, Next, Obligation, Refusal, StopRefusal};
+use crate::act::{Act, perform};
+use crate::show::{show_number, show_refusal};
+use deck::{Next, Refusal};
+use operator::Operator;
+use sampling::{EMPTY, cells_of, hash_of, hash_on};
+use std::alloc::Global;
 use tape::{Reading, Recording};
-
-// The cells that are read at a time.
-const PART: usize = 8_192;
-
-// FNV-1a of 64 bits, over bytes and on from a hash.
-const FNV_START: u64 = 0xCBF2_9CE4_8422_2325;
-
-fn hash_on(mut hash: u64, bytes: &[u8]) -> u64 {
-    for byte in bytes {
-        hash = (hash ^ u64::from(*byte)).wrapping_mul(0x0000_0100_0000_01B3);
-    }
-    hash
-}
-
-// Stops a recording that is open.
-pub(crate) fn close<C: Recording>(
-    deck: &mut Deck<C>,
-    obligation: Obligation,
-) -> Result<u32, Refusal>
-    requires { is_open (deck_state deck.old.session) ≡ true }
-{
-    match deck.stop(obligation) {
-        Ok(kept) => Ok(kept),
-        Err(StopRefusal::Unwritable(number)) => Err(Refusal::Unwritable(number)),
-        Err(StopRefusal::NotRecording(_obligation)) => unreachable(),
-    }
-}
 
 // One recording, from begin to stop.
 pub(crate) fn record<C: Recording>(
     log: &mut String,
-    deck: &mut Deck<C>,
+    operator: &mut Operator<C>,
     acts: &[Act],
 ) -> anyhow::Result<()> {
-    match deck.begin() {
+    match operator.begin() {
         Err(refusal) => show_refusal(log, refusal),
-        Ok((number, obligation)) => {
-            let done = perform_all(log, deck, number, acts);
-            let kept = close(deck, obligation);
-            done?;
-            show_taken(log, "stop", kept)
+        Ok(number) => {
+            writeln!(log, "begin {number}")?;
+            for act in acts {
+                perform(log, operator, *act)?;
+            }
+            show_number(log, "stop", operator.stop())
         }
     }
 }
 
-// How a replay went: how many blocks and marks came out, a hash of the blocks, and how it ended.
+// What a replay has handed out: how many blocks and marks, and a hash of the blocks.
 #[derive(Clone, Copy)]
 struct Replayed {
     blocks: u32,
@@ -60,28 +33,39 @@ struct Replayed {
     hash: u64,
 }
 
-fn replay_on<C: Reading>(deck: &mut Deck<C>, replayed: &mut Replayed) -> Result<bool, Refusal> {
-    for _ in 0..u32::MAX {
+impl Replayed {
+    fn add_block(&mut self, block: &[u8]) {
+        self.blocks = self.blocks.saturating_add(1);
+        self.hash = hash_on(self.hash, block);
+    }
+
+    fn add_mark(&mut self) {
+        self.marks = self.marks.saturating_add(1);
+    }
+
+    // All that is left of the replay; whether a number was passed over at its end.
+    fn add_rest<C: Reading>(&mut self, operator: &mut Operator<C>) -> Result<bool, Refusal> {
         let mut block = [0; 512];
-        match deck.next(&mut block)? {
-            Next::Block { .. } => {
-                replayed.blocks = replayed.blocks.saturating_add(1);
-                replayed.hash = hash_on(replayed.hash, &block);
+        loop {
+            match operator.next(&mut block)? {
+                Next::Block { .. } => self.add_block(&block),
+                Next::Mark { .. } => self.add_mark(),
+                Next::End { passed } => return Ok(passed),
             }
-            Next::Mark { .. } => replayed.marks = replayed.marks.saturating_add(1),
-            Next::End { passed } => return Ok(passed),
         }
     }
-    Ok(false)
 }
 
-pub(crate) fn replay<C: Reading>(log: &mut String, deck: &mut Deck<C>) -> anyhow::Result<()> {
+pub(crate) fn replay<C: Reading>(
+    log: &mut String,
+    operator: &mut Operator<C>,
+) -> anyhow::Result<()> {
     let mut replayed = Replayed {
         blocks: 0,
         marks: 0,
-        hash: FNV_START,
+        hash: EMPTY,
     };
-    let end = replay_on(deck, &mut replayed);
+    let end = replayed.add_rest(operator);
     let Replayed {
         blocks,
         marks,
@@ -96,26 +80,15 @@ pub(crate) fn replay<C: Reading>(log: &mut String, deck: &mut Deck<C>) -> anyhow
     Ok(())
 }
 
-// A hash of the cells of a track.
-fn hash_of_track<C: Reading>(cartridge: &C, track: u8, length: u32) -> u64 {
-    let mut hash = FNV_START;
-    let mut place = 0;
-    while place < length {
-        let size = (length - place).min(PART as u32);
-        let mut cells = [0; PART];
-        let part = &mut cells[0..size as usize];
-        let _ = cartridge.read(track, place, part);
-        hash = hash_on(hash, part);
-        place += size;
-    }
-    hash
-}
-
-pub(crate) fn show_cells<C: Reading>(log: &mut String, cartridge: &C) -> anyhow::Result<()> {
+pub(crate) fn show_cells<C: Reading>(
+    log: &mut String,
+    cartridge: &C,
+    heap: Global,
+) -> anyhow::Result<()> {
     for track in 0..cartridge.tracks() {
-        let length = cartridge.length(track).unwrap_or(0);
-        let hash = hash_of_track(cartridge, track, length);
-        writeln!(log, "track {track}: {length} cells {hash:016x}")?;
+        let cells = cells_of(cartridge, track, heap)?;
+        let hash = hash_of(cells.as_slice());
+        writeln!(log, "track {track}: {} cells {hash:016x}", cells.len())?;
     }
     Ok(())
 }

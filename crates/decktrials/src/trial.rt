@@ -1,11 +1,11 @@
 // A trial: a cartridge, flaws, copies laid by hand, and recordings one after the other; run on every kind of cartridge.
 use crate::act::Act;
 use crate::operate::{record, replay, show_cells};
-use deck::Deck;
 use interval::IntervalStore;
+use operator::Operator;
 use packed::PackedStore;
 use qic24::{Content, Item, LONGEST, Preamble, encode};
-use std::alloc::AllocError;
+use std::alloc::{AllocError, Global};
 use tape::{Flaw, FlawSheet, Reading, Recording};
 
 #[derive(Clone, Copy)]
@@ -29,24 +29,38 @@ fn lay<C: Recording>(cartridge: &mut C, number: u32) {
 }
 
 impl Trial<'_> {
-    // The answers and the cells on one cartridge. What was laid is replayed before and after.
-    fn run_on<C: Recording + Drop>(
+    // The answers of an operator, and the cells of the cartridge. What was laid is replayed before and after.
+    fn run_with<C: Recording>(
         &self,
         log: &mut String,
-        mut cartridge: C,
+        operator: &mut Operator<C>,
+        heap: Global,
     ) -> anyhow::Result<()> {
+        if !self.laid.is_empty() {
+            replay(log, operator)?;
+        }
+        for acts in self.recordings {
+            record(log, operator, acts)?;
+        }
+        replay(log, operator)?;
+        show_cells(log, operator.cartridge(), heap)
+    }
+
+    // All of it on one cartridge.
+    fn run_on<C: Recording + Drop>(
+        &self,
+        heap: Global,
+        mut cartridge: C,
+    ) -> anyhow::Result<String> {
         for number in self.laid {
             lay(&mut cartridge, *number);
         }
-        let mut deck = Deck::new(cartridge);
-        if !self.laid.is_empty() {
-            replay(log, &mut deck)?;
-        }
-        for acts in self.recordings {
-            record(log, &mut deck, acts)?;
-        }
-        replay(log, &mut deck)?;
-        show_cells(log, deck.cartridge())
+        let mut log = String::new(heap);
+        let mut operator = Operator::new(cartridge);
+        let done = self.run_with(&mut log, &mut operator, heap);
+        let (_cartridge, _stopped) = operator.finish();
+        done?;
+        Ok(log)
     }
 
     fn sheet_over<C: Recording>(&self, cartridge: C) -> FlawSheet<C> {
@@ -57,36 +71,39 @@ impl Trial<'_> {
         sheet
     }
 
-    fn packed(&self, rt: &HostRuntime) -> Result<PackedStore, AllocError> {
-        let bytes = (self.capacity as usize).div_ceil(8) * self.tracks as usize;
-        let memory = vec![in rt.alloc(); 0xA5u8; bytes]?;
+    // Memory that is not clean, with so many bytes for each track.
+    fn memory(&self, heap: Global, track_bytes: u32) -> Result<Vec<u8>, AllocError> {
+        vec![in heap; 0xA5u8; track_bytes as usize * self.tracks as usize]
+    }
+
+    fn packed(&self, heap: Global) -> Result<PackedStore, AllocError> {
+        let memory = self.memory(heap, self.capacity.div_ceil(8))?;
         let (store, _) = PackedStore::new(memory, self.tracks, self.capacity);
         Ok(store)
     }
 
-    fn interval(&self, rt: &HostRuntime) -> Result<IntervalStore, AllocError> {
-        let bytes = self.capacity as usize * self.tracks as usize;
-        let memory = vec![in rt.alloc(); 0xA5u8; bytes]?;
+    fn interval(&self, heap: Global) -> Result<IntervalStore, AllocError> {
+        let memory = self.memory(heap, self.capacity)?;
         let (store, _) = IntervalStore::new(memory, self.tracks, self.capacity);
         Ok(store)
     }
 
     // Prints what the packed store under a sheet answers, and whether the interval store answers otherwise, and each store without a sheet where there are no flaws.
     pub(crate) fn run(&self, rt: &HostRuntime) -> anyhow::Result<()> {
-        let mut log = String::new(rt.alloc());
-        self.run_on(&mut log, self.sheet_over(self.packed(rt)?))?;
+        let heap = rt.alloc();
+        let log = self.run_on(heap, self.sheet_over(self.packed(heap)?))?;
         println!(rt; "{}", self.name)?;
         print!(rt; "{log}")?;
-        let mut other = String::new(rt.alloc());
-        self.run_on(&mut other, self.sheet_over(self.interval(rt)?))?;
+        let other = self.run_on(heap, self.sheet_over(self.interval(heap)?))?;
         compare(rt, &log, &other, "interval under a sheet")?;
         if self.flaws.is_empty() {
-            let mut bare = String::new(rt.alloc());
-            self.run_on(&mut bare, self.packed(rt)?)?;
-            compare(rt, &log, &bare, "packed")?;
-            let mut last = String::new(rt.alloc());
-            self.run_on(&mut last, self.interval(rt)?)?;
-            compare(rt, &log, &last, "interval")?;
+            compare(rt, &log, &self.run_on(heap, self.packed(heap)?)?, "packed")?;
+            compare(
+                rt,
+                &log,
+                &self.run_on(heap, self.interval(heap)?)?,
+                "interval",
+            )?;
         }
         Ok(())
     }

@@ -14,7 +14,7 @@ const CAPACITY: u32 = 480_000;
 
 const BYTES: usize = 60_000;
 
-// Stops a recording; how many items it kept, or none where one could not be written.
+// Stops a recording; how many items it kept, or none where one could not be written. By hand and with no operator, as this program shows the obligation itself.
 fn close<C: Recording>(deck: &mut Deck<C>, obligation: Obligation) -> Option<u32>
     requires { is_open (deck_state deck.old.session) ≡ true }
 {

@@ -2,57 +2,63 @@
 
 #![tactic(auto)]
 
-ghost use Rattle.std.specs.Prelude.{◌≤◌, IfOk};
-
 use recorder::Recorder;
+use refusal::Refusal;
 use script::{Command, Reader};
 use std::io;
 use std::io::Read;
 use tape::Flaw;
 
 mod recorder;
+mod refusal;
+mod replaying;
 
 // How much of the input is a script.
-const LIMIT: usize = 4_096;
+const LIMIT: u64 = 4_096;
 
-// Fills the buffer from standard input, and answers how many bytes there were.
-fn read_script(rt: &HostRuntime, script: &mut [u8; LIMIT]) -> io::Result<usize>
-    ensures { IfOk result (λ n. n ≤ 4096) }
-{
-    let mut input = rt.stdin();
-    let mut size = 0;
-    while size < LIMIT {
-        let count = input.read(&mut script[size..])?;
-        if count == 0 {
-            break;
-        }
-        size += count;
+// The script that stands on standard input.
+fn read_script(rt: &HostRuntime) -> io::Result<Vec<u8>> {
+    let mut script = Vec::new(rt.alloc());
+    let _ = rt.stdin().take(LIMIT).read_to_end(&mut script)?;
+    Ok(script)
+}
+
+// What was done, with the number that it was answered.
+fn print_number(rt: &HostRuntime, done: &str, answer: Result<u32, Refusal>) -> anyhow::Result<()> {
+    match answer {
+        Ok(number) => println!(rt; "{done} {number}")?,
+        Err(refusal) => println!(rt; "refused {refusal}")?,
     }
-    Ok(size)
+    Ok(())
+}
+
+fn print_flaw(rt: &HostRuntime, answer: Result<(), Refusal>) -> anyhow::Result<()> {
+    match answer {
+        Ok(()) => println!(rt; "flaw")?,
+        Err(refusal) => println!(rt; "refused {refusal}")?,
+    }
+    Ok(())
 }
 
 // One command, and the lines that it prints.
 fn perform(rt: &HostRuntime, recorder: &mut Recorder, command: Command<'_>) -> anyhow::Result<()> {
     match command {
-        Command::Begin => recorder.begin(rt),
-        Command::Write(block) => recorder.write(rt, block),
-        Command::Mark => recorder.mark(rt),
-        Command::Stop => recorder.stop(rt),
+        Command::Begin => print_number(rt, "begin", recorder.begin()),
+        Command::Write(block) => print_number(rt, "block", recorder.write(block)),
+        Command::Mark => print_number(rt, "mark", recorder.mark()),
+        Command::Stop => print_number(rt, "stop", recorder.stop()),
         Command::Replay => recorder.replay(rt),
         Command::Flaw {
             track,
             place,
             length,
         } => {
-            let extent = u32::from(length);
-            recorder.flaw(
-                rt,
-                Flaw {
-                    on: track,
-                    place,
-                    extent,
-                },
-            )
+            let flaw = Flaw {
+                on: track,
+                place,
+                extent: u32::from(length),
+            };
+            print_flaw(rt, recorder.enter_flaw(flaw))
         }
         Command::Survey => not_built(rt, "survey"),
     }
@@ -63,30 +69,31 @@ fn not_built(rt: &HostRuntime, command: &str) -> anyhow::Result<()> {
     Ok(())
 }
 
-// Runs a script to its end, or to the first command that cannot be read, and stops what is open then.
-fn run(rt: &HostRuntime, script: &[u8]) -> anyhow::Result<()> {
-    let mut recorder = Recorder::new(rt.alloc())?;
+// The commands up to the script's end, or to the first that cannot be read.
+fn perform_all(rt: &HostRuntime, recorder: &mut Recorder, script: &[u8]) -> anyhow::Result<()> {
     let mut reader = Reader::new(script);
-    for _ in 0..LIMIT {
+    loop {
         match reader.next_command() {
-            Ok(Some(command)) => perform(rt, &mut recorder, command)?,
-            Ok(None) => break,
+            Ok(Some(command)) => perform(rt, recorder, command)?,
+            Ok(None) => return Ok(()),
             Err(refusal) => {
-                let number = refusal.number();
-                println!(rt; "refused {number}")?;
-                break;
+                println!(rt; "refused {refusal}")?;
+                return Ok(());
             }
         }
     }
-    recorder.close(rt)
 }
 
-fn station(rt: &HostRuntime) -> anyhow::Result<()> {
-    let mut script = [0; LIMIT];
-    let size = read_script(rt, &mut script)?;
-    run(rt, &script[0..size])
+// Runs a script, and stops the recording that is open at its end.
+fn run(rt: &HostRuntime, script: &[u8]) -> anyhow::Result<()> {
+    let mut recorder = Recorder::new(rt.alloc())?;
+    perform_all(rt, &mut recorder, script)?;
+    match recorder.stop() {
+        Err(Refusal::NotRecording) => Ok(()),
+        answer => print_number(rt, "stop", answer),
+    }
 }
 
 fn main(rt: HostRuntime) -> anyhow::Result<()> {
-    station(&rt)
+    run(&rt, read_script(&rt)?.as_slice())
 }

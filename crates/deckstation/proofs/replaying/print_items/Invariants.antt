@@ -1,9 +1,9 @@
 use Rattle.std.proofs.Common.{◌≡◌, length}
-use Rattle.replay.specs.Scan.{openings_from}
+use Rattle.operator.specs.Advancing.{openings_left}
 use Rattle.deckstation.proofs.replaying.print_items.Given as goal
 
-abbrev pub invariant-loop-next : goal.invariant-loop-next
-invariant-loop-next g l = (l.deck.session ≡ l.initial.deck.session) × (length l.block ≡ 512)
+abbrev pub invariant-loop-number : goal.invariant-loop-number
+invariant-loop-number g l = length l.block ≡ 512
 
-abbrev pub decreases-loop-next : goal.decreases-loop-next
-decreases-loop-next g l = length (openings_from (g.C.Reading.cells l.deck.cartridge) l.deck.cursor.from)
+abbrev pub decreases-loop-number : goal.decreases-loop-number
+decreases-loop-number g l = openings_left (g.C.Reading.cells l.operator.deck.cartridge) l.operator.deck.cursor

@@ -1,5 +1,5 @@
 use Rattle.std.proofs.Common.{◌+◌, ◌-◌, ◌≤◌, length}
-use Rattle.station.proofs.recorder.Recorder.replay.Given as goal
+use Rattle.station.proofs.replaying.print_items.Given as goal
 
 abbrev pub invariant-loop-place : goal.invariant-loop-place
 invariant-loop-place l = l.from ≤ length l.cells + 1

@@ -1,6 +1,0 @@
-use Rattle.std.proofs.Common.{rules}
-use Rattle.std.proofs.lemmas.List.{places}
-use Rattle.station.proofs.read_script.Goals as goal
-
-pub loop-size-preserved : goal.loop-size-preserved
-loop-size-preserved c = (search rules, search (rules, places))
