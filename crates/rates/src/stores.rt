@@ -1,4 +1,7 @@
 // How fast the stores append and read.
+ghost use Rattle.std.specs.Prelude.{◌≡◌, IfOk};
+ghost use Rattle.tape.specs.Tape.{blank};
+
 use crate::TIMES;
 use crate::clock::Watch;
 use interval::IntervalStore;
@@ -17,11 +20,12 @@ const RUNS: u32 = 3_762;
 const AMOUNT: u64 = 19_995_030;
 
 // A store that is measured.
-pub(crate) trait Store {
+pub(crate) trait Store: Reading {
     const NAME: &'static str;
 
     // One of a track, with nothing on it.
-    fn empty(rt: &HostRuntime) -> Result<Self, AllocError>;
+    fn empty(rt: &HostRuntime) -> Result<Self, AllocError>
+        ensures { IfOk result (λ store. Self.Reading.cells store ≡ blank 1) };
 }
 
 impl Store for PackedStore {
