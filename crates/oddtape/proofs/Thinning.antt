@@ -4,7 +4,8 @@ use Rattle.std.proofs.Common.{◌-◌, ◌≤◌, map, length, take, get_or, sym
 use Rattle.std.proofs.lemmas.Bool.{cond_both, cases_lt}
 use Rattle.std.proofs.lemmas.List.{map_more, length-map, length-take-le, get_or_append_left, get_or-append_right}
 use Rattle.oddtape.specs.OddLaws.{length_thinned}
-use Rattle.tape.specs.Tape.{cell}
+use Rattle.std.specs.List.{AllByRecursion}
+use Rattle.tape.specs.Tape.{Cell, cell}
 use Rattle.oddtape.specs.Odd.{kept, next, thinned, after}
 
 pub thinned_push : (n : ℕ) (xs : List ℕ) (x : ℕ) → thinned n (xs ++ x ∷ []) ≡ thinned n xs ++ kept (after n xs) x ∷ []
@@ -49,3 +50,7 @@ binary_more xs ys k e small all i h = subst (λ (zs : List ℕ). get_or zs i 0 <
       let at : i - length xs ≡ 0 = omega (arith, ap length e, length-append xs (k ∷ [])) in
       subst (λ m. m < 2) (sym (get_or-append_right xs (k ∷ []) (length xs) i 0 refl b ∙ ap (λ (j : ℕ). get_or (k ∷ []) j 0) at)) small
 ])
+
+pub thinned_binary : (n : ℕ) (xs : List ℕ) → AllByRecursion Cell (thinned n xs)
+thinned_binary n [] = tt
+thinned_binary n (x ∷ xs) = (kept_cell n x, thinned_binary (next n x) xs)

@@ -91,19 +91,28 @@ first_chunks_at n (suc m) xs (suc k) d h =
     first_chunks_at n m (drop n xs) k d (omega arith) ∙ ap (take n) (drop-drop (n * k) n xs ∙ ap (λ (i : ℕ). drop i xs) s)
 
 -- eight cells more, as a whole byte
+pub put_eight_from : (base p k v : ℕ) (xs a b : List ℕ) → p % 8 ≡ 0 → 8 * k + 8 ≤ length xs → base + p / 8 + k < length b
+    → Put base p (take (8 * k) xs) a b → ((old : ℕ) → Merged old 0 (take 8 (drop (8 * k) xs)) v)
+    → Put base p (take (8 * (k + 1)) xs) a (slice_set b (base + p / 8 + k) v)
+put_eight_from base p k v xs a b whole fits in' f m =
+    let at = base + p / 8 + k in
+    let l : length (take (8 * k) xs) ≡ 8 * k = length-take-le (8 * k) xs (omega arith) in
+    let l8 : length (take 8 (drop (8 * k) xs)) ≡ 8 = length-take-le 8 (drop (8 * k) xs) (omega (arith, length-drop (8 * k) xs)) in
+    let r : 0 ≡ (p + 8 * k) % 8 = omega arith in
+    let g = put_byte base (p + 8 * k) at v (take 8 (drop (8 * k) xs)) b (omega arith) (omega arith) (omega arith) in'
+    (subst (λ n. Merged (slice_index b at) n (take 8 (drop (8 * k) xs)) v) r (m (slice_index b at))) in
+    let s : 8 * k + 8 ≡ 8 * (k + 1) = omega arith in
+    subst (λ n. Put base p (take n xs) a (slice_set b at v)) s
+    (subst (λ ys. Put base p ys a (slice_set b at v)) (sym (take-add (8 * k) 8 xs))
+    (put_more base p (p + 8 * k) (take (8 * k) xs) (take 8 (drop (8 * k) xs)) a b (slice_set b at v) (omega arith) f g))
+
+-- of a track whose bytes stand first
 pub put_eight : (k v : ℕ) (xs a b : List ℕ) → 8 * k + 8 ≤ length xs → k < length b
     → Put 0 0 (take (8 * k) xs) a b → ((old : ℕ) → Merged old 0 (take 8 (drop (8 * k) xs)) v)
     → Put 0 0 (take (8 * (k + 1)) xs) a (slice_set b k v)
 put_eight k v xs a b fits in' f m =
-    let l : length (take (8 * k) xs) ≡ 8 * k = length-take-le (8 * k) xs (omega arith) in
-    let l8 : length (take 8 (drop (8 * k) xs)) ≡ 8 = length-take-le 8 (drop (8 * k) xs) (omega (arith, length-drop (8 * k) xs)) in
-    let r : 0 ≡ 8 * k % 8 = omega arith in
-    let g = put_byte 0 (8 * k) k v (take 8 (drop (8 * k) xs)) b (omega arith) (omega arith) (omega arith) in'
-    (subst (λ n. Merged (slice_index b k) n (take 8 (drop (8 * k) xs)) v) r (m (slice_index b k))) in
-    let s : 8 * k + 8 ≡ 8 * (k + 1) = omega arith in
-    subst (λ n. Put 0 0 (take n xs) a (slice_set b k v)) s
-    (subst (λ ys. Put 0 0 ys a (slice_set b k v)) (sym (take-add (8 * k) 8 xs))
-    (put_more 0 0 (8 * k) (take (8 * k) xs) (take 8 (drop (8 * k) xs)) a b (slice_set b k v) (omega arith) f g))
+    let at : 0 + 0 / 8 + k ≡ k = omega arith in
+    subst (λ n. Put 0 0 (take (8 * (k + 1)) xs) a (slice_set b n v)) at (put_eight_from 0 0 k v xs a b (omega arith) fits (omega arith) f m)
 
 -- all of a list, put in two parts
 pub put_both : (base p n m : ℕ) (xs a b c : List ℕ) → n ≤ length xs → m ≡ p + n → Put base p (take n xs) a b → Put base m (drop n xs) b c → Put base p xs a c

@@ -24,9 +24,19 @@ cells_binary b base n = All-from_get_or Cell (packed_cells b base n) 0 (λ i h.
     let l : i < n = omega (arith, length_cells b base n) in
     subst Cell (sym (get_or-map-range_with_len (packed_cell b base) 0 n i i 0 l (omega arith))) (bit_small (slice_index b (base + i / 8)) _))
 
-pub packed_length : (b : List ℕ) (n c : ℕ) (u : List ℕ) → length (packed_tape b n c u) ≡ n
-unfolding packed_tape
-packed_length b n c u = length_by n _
+-- any tape of a store's bytes, with u cells on its tracks
+module _ (b : List ℕ) (n c : ℕ) (u : List ℕ) where
+  pub packed_length : length (packed_tape b n c u) ≡ n
+  unfolding packed_tape
+  packed_length = length_by n _
+
+  pub packed_within : ((t : ℕ) → slice_index u t ≤ c) → (t : ℕ) → length (track (packed_tape b n c u) t) ≤ c
+  unfolding packed_tape
+  packed_within h = each-track (λ x. length x ≤ c) n _ (omega arith) (λ t. omega (arith, h t, length_cells b (t * packed_bytes c) (slice_index u t)))
+
+  pub packed_cells_binary : (t : ℕ) → AllByRecursion Cell (track (packed_tape b n c u) t)
+  unfolding packed_tape
+  packed_cells_binary = each-track (AllByRecursion Cell) n _ tt (λ t. cells_binary b (t * packed_bytes c) (slice_index u t))
 
 module _ (s : PackedStore) where
   pub packed_tracks : length (packed_store_tape s) ≡ s.sizes.tracks
@@ -39,10 +49,7 @@ module _ (s : PackedStore) where
   packed_empty e = omega (arith, packed_tracks, s.sizes.empty)
 
   pub packed_inside : (t : ℕ) → length (track (packed_store_tape s) t) ≤ packed_store_room s
-  unfolding packed_tape
-  packed_inside = each-track (λ x. length x ≤ s.sizes.capacity) s.sizes.tracks _ (omega arith)
-      (λ t. omega (arith, s.inside t, length_cells s.memory.items (t * packed_bytes s.sizes.capacity) (slice_index s.used t)))
+  packed_inside = packed_within s.memory.items s.sizes.tracks s.sizes.capacity s.used s.inside
 
   pub packed_binary : (t : ℕ) → AllByRecursion Cell (track (packed_store_tape s) t)
-  unfolding packed_tape
-  packed_binary = each-track (AllByRecursion Cell) s.sizes.tracks _ tt (λ t. cells_binary s.memory.items (t * packed_bytes s.sizes.capacity) (slice_index s.used t))
+  packed_binary = packed_cells_binary s.memory.items s.sizes.tracks s.sizes.capacity s.used
