@@ -1,14 +1,14 @@
 -- The tape that an interval store's bytes stand for.
-use Rattle.std.specs.Prelude.{◌≡◌, ℕ, ◌+◌, ◌*◌, ◌<◌, ◌≤◌, List, ◌++◌, length, take, drop, replicate, Ok, Result, slice_index, refl}
-use Rattle.std.proofs.Common.{sym, subst, ◌∙◌, arith, length-drop}
+use Rattle.std.specs.Prelude.{◌≡◌, ℕ, ◌+◌, ◌*◌, ◌<◌, ◌≤◌, List, ◌++◌, length, take, drop, replicate, Ok, Result, slice_index}
+use Rattle.std.proofs.Common.{sym, ◌∙◌, arith, length-drop}
 use Rattle.std.proofs.Math.Path.{ap}
 use Rattle.std.specs.List.{flat_map}
 use Rattle.std.proofs.lemmas.List.{length-take-le, length-replicate, length-append, get_or-take, get_or-drop, get_or_default, same_lists}
 use Rattle.tape.specs.Tape.{track, blank}
 use Rattle.tape.specs.Calls.{length_answer}
 use Rattle.tape.specs.declared.refusal.Refusal.{Refusal}
-use Rattle.interval.specs.Intervals.{gap, interval_cells, interval_tape, no_fill, no_track, state_of, Stands}
-use Rattle.interval.specs.Marks.{mark_of, fill_at, Noted}
+use Rattle.interval.specs.Intervals.{gap, cells_by, interval_cells, interval_tape, no_track, state_of, Stands}
+use Rattle.interval.specs.Marks.{mark_stride, mark_of, Noted}
 use Rattle.interval.specs.IntervalStores.{interval_store_tape}
 use Rattle.interval.specs.declared.interval.IntervalStore.{IntervalStore}
 use Rattle.interval.specs.declared.interval.track.Fill.{Fill}
@@ -18,37 +18,56 @@ use Rattle.interval.proofs.GapReads.{zeros_at}
 use Rattle.tape.proofs.Replies.{length-told}
 use Rattle.tape.proofs.Tapes.{track_by, by_blank}
 
-pub length_bytes : (b : List ℕ) (f : Fill) → length (interval_cells b f) ≡ length (flat_map gap (take f.used b)) + f.zeros
-unfolding interval_cells
-length_bytes b f = length-append (flat_map gap (take f.used b)) (replicate f.zeros 0) ∙ ap (λ (k : ℕ). length (flat_map gap (take f.used b)) + k) (length-replicate f.zeros 0)
+pub length_bytes : (b : List ℕ) (n z : ℕ) → length (cells_by b n z) ≡ length (flat_map gap (take n b)) + z
+unfolding cells_by
+length_bytes b n z = length-append (flat_map gap (take n b)) (replicate z 0) ∙ ap (λ (k : ℕ). length (flat_map gap (take n b)) + k) (length-replicate z 0)
 
 -- only the bytes in use matter
-pub same_bytes : (a b : List ℕ) (f : Fill) → take f.used a ≡ take f.used b → interval_cells a f ≡ interval_cells b f
-unfolding interval_cells
-same_bytes a b f e = ap (λ (x : List ℕ). flat_map gap x ++ replicate f.zeros 0) e
+pub same_bytes : (a b : List ℕ) (n z : ℕ) → take n a ≡ take n b → cells_by a n z ≡ cells_by b n z
+unfolding cells_by
+same_bytes a b n z e = ap (λ (x : List ℕ). flat_map gap x ++ replicate z 0) e
+
+-- and both counts
+pub same_counts : (b : List ℕ) (n z m y : ℕ) → n ≡ m → z ≡ y → length (cells_by b n z) ≡ length (cells_by b m y)
+same_counts b n z m y e f = ap (λ (k : ℕ). length (cells_by b k z)) e ∙ ap (λ (k : ℕ). length (cells_by b m k)) f
 
 module _ (m : List ℕ) (n c : ℕ) (ts : List TrackState) where
   pub interval_track : (t : ℕ) → t < n → track (interval_tape m n c ts) t ≡ interval_cells (drop (t * c) m) (state_of ts t).fill
   unfolding interval_tape
   interval_track t h = track_by n (λ t. interval_cells (drop (t * c) m) (state_of ts t).fill) t h
 
+  -- no bytes in use and no zeros beside, whatever else a track's state says
+  pub interval_unfilled : ((t : ℕ) → (state_of ts t).fill.used ≡ 0) → ((t : ℕ) → (state_of ts t).fill.zeros ≡ 0) → interval_tape m n c ts ≡ blank n
+  unfolding interval_tape cells_by
+  interval_unfilled f g = by_blank n _ (λ t. ap (λ (u : ℕ). flat_map gap (take u (drop (t * c) m)) ++ replicate (state_of ts t).fill.zeros 0) (f t) ∙ ap (λ (z : ℕ). replicate z 0) (g t))
+
   pub interval_blank : ((t : ℕ) → state_of ts t ≡ no_track) → interval_tape m n c ts ≡ blank n
-  unfolding interval_tape interval_cells
-  interval_blank none = by_blank n _ (λ t. ap (λ (s : TrackState). interval_cells (drop (t * c) m) s.fill) (none t))
+  interval_blank none = interval_unfilled (λ t. ap (λ (s : TrackState). s.fill.used) (none t)) (λ t. ap (λ (s : TrackState). s.fill.zeros) (none t))
+
+-- no cells by these counts
+no_cells_by : (b : List ℕ) (n z : ℕ) → n ≡ 0 → z ≡ 0 → length (cells_by b n z) ≡ 0
+unfolding cells_by
+no_cells_by b n z e f = same_counts b n z 0 0 e f
 
 -- a track without cells
-pub stands_none : (b : List ℕ) (c : ℕ) (s : TrackState) → s ≡ no_track → Stands b c s
-unfolding interval_cells
-stands_none b c s none = subst (Stands b c) (sym none) (omega arith, omega arith, refl)
+pub stands_unfilled : (b : List ℕ) (c : ℕ) (s : TrackState) → s.cells ≡ 0 → s.fill.used ≡ 0 → s.fill.zeros ≡ 0 → Stands b c s
+stands_unfilled b c s e f g = (omega arith, omega arith, no_cells_by b s.fill.used s.fill.zeros f g ∙ sym e)
 
-pub noted_none : (b : List ℕ) (c : ℕ) (s : TrackState) (fs : List Fill) (t : ℕ) → s ≡ no_track → ((k : ℕ) → fill_at fs k ≡ no_fill) → Noted b c s.cells fs t
-unfolding interval_cells
-noted_none b c s fs t none all k h = ap (λ (f : Fill). length (interval_cells b f)) (all (mark_of t k)) ∙ omega (arith, ap (λ (s : TrackState). s.cells) none)
+pub stands_none : (b : List ℕ) (c : ℕ) (s : TrackState) → s ≡ no_track → Stands b c s
+stands_none b c s none = stands_unfilled b c s (ap (λ (s : TrackState). s.cells) none) (ap (λ (s : TrackState). s.fill.used) none) (ap (λ (s : TrackState). s.fill.zeros) none)
+
+pub noted_unfilled : (b : List ℕ) (c x : ℕ) (us zs : List ℕ) (t : ℕ) → x ≡ 0 → ((k : ℕ) → slice_index us k ≡ 0) → ((k : ℕ) → slice_index zs k ≡ 0) → Noted b c x us zs t
+noted_unfilled b c x us zs t e f g k h =
+    let z : k * mark_stride c ≡ 0 = omega arith in
+    no_cells_by b (slice_index us (mark_of t k)) (slice_index zs (mark_of t k)) (f (mark_of t k)) (g (mark_of t k)) ∙ sym z
+
+pub noted_none : (b : List ℕ) (c : ℕ) (s : TrackState) (us zs : List ℕ) (t : ℕ) → s ≡ no_track → ((k : ℕ) → slice_index us k ≡ 0) → ((k : ℕ) → slice_index zs k ≡ 0) → Noted b c s.cells us zs t
+noted_none b c s us zs t none = noted_unfilled b c s.cells us zs t (ap (λ (s : TrackState). s.cells) none)
 
 -- what a read copies
 pub copied_cells : (b : List ℕ) (f : Fill) (p : ℕ) (out : List ℕ) → p + length out ≤ length (interval_cells b f)
     → ((k : ℕ) → k < length out → slice_index out k ≡ slice_index (flat_map gap (take f.used b)) (p + k)) → out ≡ take (length out) (drop p (interval_cells b f))
-unfolding interval_cells
+unfolding cells_by
 copied_cells b f p out h at =
     let cells : List ℕ = interval_cells b f in
     same_lists _ _ (sym (length-take-le (length out) (drop p cells) (omega (arith, length-drop p cells))))

@@ -6,7 +6,7 @@ use Rattle.std.specs.List.{flat_map}
 use Rattle.std.proofs.lemmas.List.{append-nil, append_assoc, length-append, take-take, take_more_set, take-set, set-set, replicate_more, flat_map_more}
 use Rattle.std.proofs.lemmas.Bool.{eq-eqb, ne_eqb}
 use Rattle.interval.specs.declared.interval.track.Fill.{Fill}
-use Rattle.interval.specs.Intervals.{gap, interval_cells}
+use Rattle.interval.specs.Intervals.{gap, cells_by, interval_cells}
 use Rattle.interval.specs.Gaps.{Spelled}
 
 pub gap_one : (z : ℕ) → z < 255 → gap z ≡ replicate z 0 ++ 1 ∷ []
@@ -26,8 +26,8 @@ spelled_none f b = record { are = sym (append-nil (interval_cells b f)); kept = 
 
 -- one cell more, by how far the track is filled then
 module _ (f g : Fill) (b : List ℕ) where
-  spelled_one : f.used < length b → g.used ≡ f.used + 1 → g.zeros ≡ 0 → Spelled f b (1 ∷ []) (slice_set b f.used f.zeros) g
-  unfolding interval_cells
+  pub spelled_one : f.used < length b → g.used ≡ f.used + 1 → g.zeros ≡ 0 → Spelled f b (1 ∷ []) (slice_set b f.used f.zeros) g
+  unfolding cells_by
   spelled_one h u z = record {
     are = rw (u, z) (append-nil (flat_map gap (take (f.used + 1) (slice_set b f.used f.zeros))) ∙ byte_more b f.used f.zeros h ∙ ap (λ (g : List ℕ). flat_map gap (take f.used b) ++ g) (gap_one f.zeros f.short)
         ∙ sym (append_assoc (flat_map gap (take f.used b)) (replicate f.zeros 0) (1 ∷ [])));
@@ -37,8 +37,8 @@ module _ (f g : Fill) (b : List ℕ) where
   }
 
   -- what stands after the bytes in use does not matter
-  spelled_zero : (e : List ℕ) → take f.used e ≡ take f.used b → g.used ≡ f.used → g.zeros ≡ f.zeros + 1 → Spelled f b (0 ∷ []) e g
-  unfolding interval_cells
+  pub spelled_zero : (e : List ℕ) → take f.used e ≡ take f.used b → g.used ≡ f.used → g.zeros ≡ f.zeros + 1 → Spelled f b (0 ∷ []) e g
+  unfolding cells_by
   spelled_zero e same u z = record {
     are = rw (u, z) (ap (λ (x : List ℕ). flat_map gap x ++ replicate (f.zeros + 1) 0) same
         ∙ ap (λ (g : List ℕ). flat_map gap (take f.used b) ++ g) (sym (replicate_more f.zeros 0)) ∙ sym (append_assoc (flat_map gap (take f.used b)) (replicate f.zeros 0) (0 ∷ [])));
@@ -47,8 +47,8 @@ module _ (f g : Fill) (b : List ℕ) where
     few = omega arith;
   }
 
-  spelled_full : f.used < length b → f.zeros + 1 ≡ 255 → g.used ≡ f.used + 1 → g.zeros ≡ 0 → Spelled f b (0 ∷ []) (slice_set b f.used 255) g
-  unfolding interval_cells
+  pub spelled_full : f.used < length b → f.zeros + 1 ≡ 255 → g.used ≡ f.used + 1 → g.zeros ≡ 0 → Spelled f b (0 ∷ []) (slice_set b f.used 255) g
+  unfolding cells_by
   spelled_full h s u z = record {
     are = rw (u, z) (append-nil (flat_map gap (take (f.used + 1) (slice_set b f.used 255))) ∙ ap (λ v. flat_map gap (take (f.used + 1) (slice_set b f.used v))) (sym s)
         ∙ byte_more b f.used (f.zeros + 1) h ∙ ap (λ (g : List ℕ). flat_map gap (take f.used b) ++ g) (gap_full (f.zeros + 1) s ∙ sym (replicate_more f.zeros 0))

@@ -10,9 +10,13 @@ use Rattle.interval.specs.Shorts.{none_short}
 unfoldable pub gap : ℕ → List ℕ
 gap b = replicate b 0 ++ cond (b == 255) [] (1 ∷ [])
 
+-- the cells of the first n bytes, and of the zeros counted beside
+unfoldable pub cells_by : List ℕ → ℕ → ℕ → List ℕ
+cells_by bytes n zeros = flat_map gap (take n bytes) ++ replicate zeros 0
+
 -- the cells of the bytes in use, and of the zeros counted beside
-unfoldable pub interval_cells : List ℕ → Fill → List ℕ
-interval_cells bytes f = flat_map gap (take f.used bytes) ++ replicate f.zeros 0
+abbrev pub interval_cells : List ℕ → Fill → List ℕ
+interval_cells bytes f = cells_by bytes f.used f.zeros
 
 -- a track without cells
 abbrev pub no_fill : Fill

@@ -26,6 +26,6 @@ pub struct IntervalStore {
     ghost enough: { sizes.tracks * sizes.capacity ≤ vec_len memory },
     ghost nine: { length states ≡ most_tracks },
     ghost rule: { (t : ℕ) → Stands (drop (t * sizes.capacity) memory.items) sizes.capacity (state_of states t) },
-    ghost noted: { (t : ℕ) → Noted (drop (t * sizes.capacity) memory.items) sizes.capacity (state_of states t).cells index.fills t },
-    ghost held: { (t : ℕ) → OfTrack (state_of states t).fill.used index.fills t },
+    ghost noted: { (t : ℕ) → Noted (drop (t * sizes.capacity) memory.items) sizes.capacity (state_of states t).cells index.used index.zeros t },
+    ghost held: { (t : ℕ) → OfTrack (state_of states t).fill.used index.used t },
 }

@@ -1,10 +1,10 @@
 // The index of an interval store: where each track stood when it came to a mark.
-ghost use Rattle.std.specs.Prelude.{◌≡◌, ℕ, ◌+◌, ◌-◌, ◌*◌, ◌/◌, ◌<◌, ◌≤◌, length, slice_set};
+ghost use Rattle.std.specs.Prelude.{◌≡◌, ℕ, ◌+◌, ◌-◌, ◌*◌, ◌/◌, ◌<◌, ◌≤◌, length, slice_index, slice_set};
 ghost use Rattle.std.specs.Int.{div_ceil};
-ghost use Rattle.tape.specs.Tape.{most_tracks};
-ghost use Rattle.interval.specs.Intervals.{no_fill};
-ghost use Rattle.interval.specs.Marks.{mark_stride, mark_of, fill_at};
+ghost use Rattle.tape.specs.Tape.{most_tracks, most_cells};
+ghost use Rattle.interval.specs.Marks.{mark_stride, mark_of};
 ghost use Rattle.interval.specs.declared.interval.index.TheConstants.{ALL_MARKS};
+ghost use Rattle.interval.specs.declared.interval.track.TheConstants.{ZEROS_ALONE};
 
 use crate::interval::track::Fill;
 use tape::MOST_TRACKS;
@@ -36,32 +36,44 @@ impl Mark {
 
 #[derive(Drop)]
 pub struct Index {
-    // How each track was filled at its marks.
-    fills: [Fill; ALL_MARKS],
-    ghost long: { length fills ≡ ALL_MARKS },
+    // How each track was filled at its marks: the bytes in use there, and the zeros after them.
+    // A store is moved by value, so its notes are no wider than they need be: five bytes for a mark.
+    used: [u32; ALL_MARKS],
+    zeros: [u8; ALL_MARKS],
+    ghost long: { (length used ≡ ALL_MARKS) × (length zeros ≡ ALL_MARKS) },
+    ghost short: { (k : ℕ) → slice_index zeros k < ZEROS_ALONE },
 }
 
 impl Index {
     pub(crate) fn new() -> Index
-        ensures { (k : ℕ) → fill_at result.fills k ≡ no_fill }
+        ensures used { (k : ℕ) → slice_index result.used k ≡ 0 }
+        ensures zeros { (k : ℕ) → slice_index result.zeros k ≡ 0 }
     {
         Index {
-            fills: [Fill::none(); ALL_MARKS],
+            used: [0; ALL_MARKS],
+            zeros: [0; ALL_MARKS],
         }
     }
 
     // Notes where a track stands.
     pub(crate) fn note(&mut self, mark: Mark, fill: Fill)
-        ensures { self.new.fills ≡ slice_set self.old.fills mark.number fill }
+        requires { fill.used ≤ most_cells }
+        ensures used { self.new.used ≡ slice_set self.old.used mark.number fill.used }
+        ensures zeros { self.new.zeros ≡ slice_set self.old.zeros mark.number fill.zeros }
     {
-        self.fills[mark.number] = fill;
+        self.used[mark.number] = fill.used as u32;
+        self.zeros[mark.number] = fill.zeros as u8;
     }
 
     // Where a track stood.
     pub(crate) fn noted(&self, mark: Mark) -> Fill
-        ensures { result ≡ fill_at self.now.fills mark.number }
+        ensures used { result.used ≡ slice_index self.now.used mark.number }
+        ensures zeros { result.zeros ≡ slice_index self.now.zeros mark.number }
     {
-        self.fills[mark.number]
+        Fill {
+            used: self.used[mark.number] as usize,
+            zeros: usize::from(self.zeros[mark.number]),
+        }
     }
 }
 

@@ -8,6 +8,13 @@ use Rattle.interval.proofs.IntervalGrowth.{grew_tape, grew_rule, grew_noted, gre
 use Rattle.interval.proofs.IntervalPuts.{put_grew}
 use Rattle.interval.proofs.interval.IntervalStore.put_part.Goals as goal
 
+pub note-requires : goal.note-requires
+note-requires c =
+    let s = c.args.self.now in
+    let r = s.rule c.args.at in
+    let was = ap (λ (r : TrackState). r.fill.used + r.fill.zeros) c.state-cells.ensures in
+    omega (arith, was, r.0, r.1, c.requires.fits, s.sizes.small, c.add_cells-fill.ensures.few, length-map c.args.sent.now cell)
+
 pub invariant_of-self : goal.invariant_of-self
 invariant_of-self c =
     let s = c.args.self.now in
@@ -21,9 +28,9 @@ invariant_of-self c =
       nine = length-set s.states c.from.result _ ∙ s.nine;
       rule = grew_rule s _ t c.from.result _ _ c.requires.there c.from.ensures more (omega (arith, was, c.requires.fits)) grown;
       noted = grew_noted s _ t c.from.result _ _ c.requires.there c.from.ensures more (omega (arith, was, c.requires.fits)) grown
-          c.mark_ahead-mark.result.number _ c.note.ensures (omega (arith, was, c.requires.step)) c.mark_ahead-mark.ensures;
+          c.mark_ahead-mark.result.number _ _ c.note.ensures.used c.note.ensures.zeros (omega (arith, was, c.requires.step)) c.mark_ahead-mark.ensures;
       held = grew_held s _ t c.from.result _ _ c.requires.there c.from.ensures more (omega (arith, was, c.requires.fits)) grown
-          c.mark_ahead-mark.result.number _ c.note.ensures (omega (arith, was, c.requires.step)) c.mark_ahead-mark.ensures;
+          c.mark_ahead-mark.result.number _ _ c.note.ensures.used c.note.ensures.zeros (omega (arith, was, c.requires.step)) c.mark_ahead-mark.ensures;
     }
 
 pub returns-clause-takes : goal.returns-clause-takes

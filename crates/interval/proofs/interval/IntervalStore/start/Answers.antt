@@ -1,10 +1,10 @@
-use Rattle.std.proofs.Common.{◌≡◌, ℕ, ◌+◌, ◌*◌, ◌/◌, ◌<◌, ◌≤◌, List, length, take, drop, sym, ap, ◌∙◌, arith}
+use Rattle.std.proofs.Common.{◌≡◌, ℕ, ◌+◌, ◌*◌, ◌/◌, ◌<◌, ◌≤◌, List, length, get_or, take, drop, sym, ap, ◌∙◌, arith}
 use Rattle.std.specs.List.{flat_map}
 use Rattle.interval.specs.Intervals.{gap, state_of}
-use Rattle.interval.specs.Marks.{mark_stride, mark_of, fill_at}
+use Rattle.interval.specs.Marks.{mark_stride, mark_of}
 use Rattle.interval.specs.declared.interval.IntervalStore.{IntervalStore}
 use Rattle.interval.specs.declared.interval.track.Fill.{Fill}
-use Rattle.interval.proofs.IntervalTapes.{length_bytes}
+use Rattle.interval.proofs.IntervalTapes.{length_bytes, same_counts}
 use Rattle.interval.proofs.StrideSteps.{stride_some, mark-inside, behind_at, behind_near}
 use Rattle.interval.proofs.interval.IntervalStore.start.Goals as goal
 
@@ -16,23 +16,24 @@ record Told (s : IntervalStore) (t p : ℕ) (f : Fill) (cells : ℕ) : Type 0 wh
   near : p < cells + mark_stride s.sizes.capacity
 
 told : (s : IntervalStore) (t p m cells : ℕ) (f : Fill) → p ≤ (state_of s.states t).cells → m ≡ mark_of t (p / mark_stride s.sizes.capacity) → cells ≡ p / mark_stride s.sizes.capacity * mark_stride s.sizes.capacity
-    → f ≡ fill_at s.index.fills m → Told s t p f cells
-told s t p m cells f h em ec ef =
+    → f.used ≡ get_or s.index.used m 0 → f.zeros ≡ get_or s.index.zeros m 0 → Told s t p f cells
+told s t p m cells f h em ec eu ez =
     let n = mark_stride s.sizes.capacity in
     let some = stride_some s.sizes.capacity in
     let low = behind_at n some p in
     let in' = mark-inside s.sizes.capacity (p / n) (omega (arith, (s.rule t).0)) in
-    let is : f ≡ fill_at s.index.fills (mark_of t (p / n)) = ef ∙ ap (fill_at s.index.fills) em in
+    let iu : f.used ≡ get_or s.index.used (mark_of t (p / n)) 0 = eu ∙ ap (λ (i : ℕ). get_or s.index.used i 0) em in
+    let iz : f.zeros ≡ get_or s.index.zeros (mark_of t (p / n)) 0 = ez ∙ ap (λ (i : ℕ). get_or s.index.zeros i 0) em in
     let b : List ℕ = drop (t * s.sizes.capacity) s.memory.items in
     record {
-      used = omega (arith, ap (λ (g : Fill). g.used) is, s.held t (p / n) (omega arith));
-      stand = rw is (sym (length_bytes b (fill_at s.index.fills (mark_of t (p / n)))) ∙ s.noted t (p / n) (omega arith) ∙ sym ec);
+      used = omega (arith, iu, s.held t (p / n) (omega arith));
+      stand = sym (length_bytes b f.used f.zeros) ∙ same_counts b _ _ _ _ iu iz ∙ s.noted t (p / n) (omega arith) ∙ sym ec;
       before = omega arith;
       near = omega (arith, behind_near n some p);
     }
 
 here : (c : goal.After-noted-used) → Told c.args.self.now c.args.at c.args.place c.noted-used.result c.mark_behind-cells.result.1
-here c = told c.args.self.now c.args.at c.args.place c.mark_behind-cells.result.0.number _ _ c.requires.inside c.mark_behind-cells.ensures.mark c.mark_behind-cells.ensures.cells c.noted-used.ensures
+here c = told c.args.self.now c.args.at c.args.place c.mark_behind-cells.result.0.number _ _ c.requires.inside c.mark_behind-cells.ensures.mark c.mark_behind-cells.ensures.cells c.noted-used.ensures.used c.noted-used.ensures.zeros
 
 pub overflow_sub-result : goal.overflow_sub-result
 overflow_sub-result c = let h = here c in omega (arith, h.stand)
