@@ -1,5 +1,5 @@
 -- The rows of a replay, file by file.
-use Rattle.std.proofs.Common.{◌≡◌, ℕ, suc, ◌+◌, ◌<◌, ◌≤◌, Bool, true, false, cond, eqb, ltb, List, [], ◌∷◌, ◌++◌, length, get_or, drop, set, unwrap_or, Some, None, IfSome, Ok, Err, Option, Result, sym, refl, ap, ◌∙◌, subst, append_assoc, arith, length-append}
+use Rattle.std.proofs.Common.{◌≡◌, ℕ, suc, ◌+◌, ◌<◌, ◌≤◌, Bool, true, false, cond, eqb, ltb, List, [], ◌∷◌, ◌++◌, length, get_or, drop, set, unwrap_or, Some, None, IfSome, Ok, IfOk, Err, Option, Result, sym, refl, ap, ◌∙◌, subst, append_assoc, arith, length-append}
 use Rattle.std.proofs.lemmas.List.{drop_more, set_at}
 use Rattle.std.proofs.lemmas.Bool.{cond-true, cond-false, ne_eqb}
 use Rattle.qic24.specs.Cells.{fold}
@@ -221,6 +221,10 @@ module _ (c : Tape) (k k1 : ReplayCursor) where
   last_further None w = tt
   last_further (Some r) w = w.way.further
 
+  pub last_ended : (file : Option ShelfRow) → (passed : Bool) → found_end passed ≡ next_found c k1 → IfSome file (λ r. r.closed ≡ false → shelf_from c k1 ≡ Ok [])
+  last_ended None passed e = tt
+  last_ended (Some r) passed e = λ _. end_filed c k1 0 0 passed e
+
   pub beyond_row : (file : Option ShelfRow) → Filing c k k1 file → (v : UnlocatedNumber) → found_beyond v ≡ next_found c k1 → shelf_from c k ≡ Err v
   beyond_row file w v e = w.is ∙ beyond_filed c k1 (began_at file) (blocks_of file) v e
 
@@ -265,3 +269,9 @@ module _ (c : Tape) (before : List ShelfRow) (k : ReplayCursor) (filed : ℕ) (r
       longer : (x : Result (List ShelfRow) UnlocatedNumber) → mapped_ok (λ list. w.done ++ list) (mapped_ok (λ list. r ∷ list) x) ≡ mapped_ok (λ list. (w.done ++ (r ∷ [])) ++ list) x
       longer (Ok l) = ap Ok (sym (append_assoc w.done (r ∷ []) l))
       longer (Err v) = refl
+
+  -- one row more, and it is the last
+  pub listing_last : (r : ShelfRow) → shelf_from c k ≡ Ok (r ∷ []) → IfOk (tape_shelf c) (λ list. PutOver list before (set rows filed r))
+  listing_last r e =
+      subst (λ (x : Result (List ShelfRow) UnlocatedNumber). IfOk x (λ list. PutOver list before (set rows filed r))) (sym (w.is ∙ ap (mapped_ok (λ list. w.done ++ list)) e))
+      (subst (λ (m : ℕ). PutOver (w.done ++ (r ∷ [])) before (set rows m r)) w.count (put_one w.done before rows r w.put))

@@ -1,5 +1,5 @@
 // The items of a replay as files, one after the other.
-ghost use Rattle.std.specs.Prelude.{◌≡◌, IfSome, IfOk};
+ghost use Rattle.std.specs.Prelude.{◌≡◌, false, [], IfSome, Ok, IfOk};
 ghost use Rattle.shelf.specs.Survey.{shelf_from, next_row, GoesFurther};
 
 use crate::row::ShelfRow;
@@ -14,9 +14,10 @@ pub(crate) fn next_file<C: Reading>(
 ) -> Result<Option<ShelfRow>, UnlocatedNumber>
     ensures row { shelf_from (C.Reading.cells cartridge.now) cursor.old ≡ next_row result (shelf_from (C.Reading.cells cartridge.now) cursor.new) }
     ensures further { IfOk result (λ row. IfSome row (λ _. GoesFurther (C.Reading.cells cartridge.now) cursor.old cursor.new)) }
+    ensures last { IfOk result (λ row. IfSome row (λ r. r.closed ≡ false → shelf_from (C.Reading.cells cartridge.now) cursor.new ≡ Ok [])) }
 {
     let mut file = None;
-    // no iterator: the end and a refusal stay at the cursor, and are found there again
+    // no iterator: a refusal stays at the cursor, and is found there again
     while let Found::Item { item, after, .. } = next_item(cartridge, cursor)? {
         *cursor = after;
         let mut row = file.unwrap_or(ShelfRow {

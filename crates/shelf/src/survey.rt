@@ -30,6 +30,10 @@ fn list_rows<C: Reading>(cartridge: &C, rows: &mut [ShelfRow]) -> Result<usize, 
         put_row(rows, filed, row);
         // a file that no row is left for counts too
         filed += 1;
+        // an open row is the last one: the end was found behind it
+        if !row.closed {
+            return Ok(filed);
+        }
     }
     Ok(filed)
 }
