@@ -6,6 +6,6 @@ mod cells;
 mod hash;
 mod scramble;
 
-pub use cells::cells_of;
+pub use cells::{cells_of, hash_of_track};
 pub use hash::{EMPTY, hash_of, hash_on};
 pub use scramble::Scramble;

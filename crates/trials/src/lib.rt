@@ -6,6 +6,8 @@
 mod flaws;
 #[cfg(test)]
 mod intervals;
+#[cfg(test)]
+mod tracks;
 
 #[cfg(test)]
 mod tests {
