@@ -8,14 +8,14 @@ use interval::IntervalStore;
 use operator::Operator;
 use packed::PackedStore;
 use qic24::{Content, Item, LONGEST, Preamble, encode};
-use sampling::{cells_of, hash_of};
-use tape::{FlawSheet, Reading, Recording, Refusal};
+use sampling::hash_of_track;
+use tape::{FlawSheet, Reading, Recording, Refusal, track_length};
 
 fn print_tracks<C: Reading>(rt: &HostRuntime, cartridge: &C) -> anyhow::Result<()> {
     for track in 0..cartridge.tracks() {
-        let cells = cells_of(cartridge, track, rt.alloc())?;
-        let hash = hash_of(cells.as_slice());
-        println!(rt; "track {track} {} {hash:016x}", cells.len())?;
+        let length = track_length(cartridge, track);
+        let hash = hash_of_track(cartridge, track);
+        println!(rt; "track {track} {length} {hash:016x}")?;
     }
     Ok(())
 }
@@ -53,8 +53,24 @@ fn perform_all<C: Recording>(
     Ok(())
 }
 
-// How a store was made, marks that are laid on it, the calls of a deck over it, and the tracks after them.
-fn operate<C: Recording + Drop>(
+// The calls that the next records are, the end of a recording that they leave open, and the tracks after them.
+fn operate<C: Recording>(
+    rt: &HostRuntime,
+    operator: &mut Operator<FlawSheet<C>>,
+    records: &mut Records<'_>,
+) -> anyhow::Result<()>
+    ensures { length records.new.left.now ≤ length records.old.left.now }
+{
+    perform_all(rt, operator, records)?;
+    match operator.stop() {
+        Err(deck::Refusal::NotRecording) => {}
+        kept => print_number(rt, "stop", kept)?,
+    }
+    print_tracks(rt, operator.cartridge())
+}
+
+// How a store was made, marks that are laid on it, and the calls of a deck over it.
+fn run_on<C: Recording + Drop>(
     rt: &HostRuntime,
     made: (C, Result<(), Refusal>),
     records: &mut Records<'_>,
@@ -65,13 +81,10 @@ fn operate<C: Recording + Drop>(
     print_done(rt, answer)?;
     lay_all(&mut store, records);
     let mut operator = Operator::new(FlawSheet::new(store));
-    let performed = perform_all(rt, &mut operator, records);
-    let (sheet, stopped) = operator.finish();
-    performed?;
-    if let Some(kept) = stopped {
-        print_number(rt, "stop", kept)?;
-    }
-    print_tracks(rt, &sheet)
+    let operated = operate(rt, &mut operator, records);
+    // The store is looked at before, since it is large to be handed back. Open is only what a failed line left so.
+    let (_sheet, _stopped) = operator.finish();
+    operated
 }
 
 // Over as many bytes as each kind of store may need, but no more than so many a track.
@@ -90,7 +103,7 @@ pub(crate) fn deck_record(
     let size = (capacity as usize).min(1_000_000) * tracks as usize;
     let memory = vec![in rt.alloc(); 0xA5u8; size]?;
     match kind {
-        Kind::Packed => operate(rt, PackedStore::new(memory, tracks, capacity), records),
-        Kind::Interval => operate(rt, IntervalStore::new(memory, tracks, capacity), records),
+        Kind::Packed => run_on(rt, PackedStore::new(memory, tracks, capacity), records),
+        Kind::Interval => run_on(rt, IntervalStore::new(memory, tracks, capacity), records),
     }
 }
