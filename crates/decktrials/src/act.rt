@@ -1,4 +1,8 @@
 // What is done while a recording is open.
+ghost use Rattle.std.specs.Prelude.{◌≡◌, true};
+ghost use Rattle.deck.specs.Ending.{is_open};
+ghost use Rattle.deck.specs.State.{deck_state};
+
 use crate::show::{show_number, show_refusal};
 use deck::Refusal;
 use operator::Operator;
@@ -19,7 +23,9 @@ pub(crate) enum Act {
 }
 
 // Marks until one is refused or there are so many; the last answer.
-fn marks<C: Recording>(operator: &mut Operator<C>, count: u32) -> Result<u32, Refusal> {
+fn marks<C: Recording>(operator: &mut Operator<C>, count: u32) -> Result<u32, Refusal>
+    ensures { is_open (deck_state operator.new.deck.session) ≡ is_open (deck_state operator.old.deck.session) }
+{
     let mut last = 0;
     for _ in 0..count {
         last = operator.mark()?;
@@ -31,7 +37,9 @@ pub(crate) fn perform<C: Recording>(
     log: &mut String,
     operator: &mut Operator<C>,
     act: Act,
-) -> anyhow::Result<()> {
+) -> anyhow::Result<()>
+    ensures { is_open (deck_state operator.old.deck.session) ≡ true → is_open (deck_state operator.new.deck.session) ≡ true }
+{
     match act {
         Act::Marks(count) => show_number(log, "mark", marks(operator, count)),
         Act::Block(byte) => show_number(log, "block", operator.write(&[byte; 512])),

@@ -3,9 +3,8 @@ use crate::act::{Act, perform};
 use crate::show::{show_number, show_refusal};
 use deck::{Next, Refusal};
 use operator::Operator;
-use sampling::{EMPTY, cells_of, hash_of, hash_on};
-use std::alloc::Global;
-use tape::{Reading, Recording};
+use sampling::{EMPTY, hash_of_track, hash_on};
+use tape::{Reading, Recording, track_length};
 
 // One recording, from begin to stop.
 pub(crate) fn record<C: Recording>(
@@ -80,15 +79,11 @@ pub(crate) fn replay<C: Reading>(
     Ok(())
 }
 
-pub(crate) fn show_cells<C: Reading>(
-    log: &mut String,
-    cartridge: &C,
-    heap: Global,
-) -> anyhow::Result<()> {
+pub(crate) fn show_cells<C: Reading>(log: &mut String, cartridge: &C) -> anyhow::Result<()> {
     for track in 0..cartridge.tracks() {
-        let cells = cells_of(cartridge, track, heap)?;
-        let hash = hash_of(cells.as_slice());
-        writeln!(log, "track {track}: {} cells {hash:016x}", cells.len())?;
+        let length = track_length(cartridge, track);
+        let hash = hash_of_track(cartridge, track);
+        writeln!(log, "track {track}: {length} cells {hash:016x}")?;
     }
     Ok(())
 }

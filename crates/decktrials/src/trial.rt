@@ -34,7 +34,6 @@ impl Trial<'_> {
         &self,
         log: &mut String,
         operator: &mut Operator<C>,
-        heap: Global,
     ) -> anyhow::Result<()> {
         if !self.laid.is_empty() {
             replay(log, operator)?;
@@ -43,7 +42,7 @@ impl Trial<'_> {
             record(log, operator, acts)?;
         }
         replay(log, operator)?;
-        show_cells(log, operator.cartridge(), heap)
+        show_cells(log, operator.cartridge())
     }
 
     // All of it on one cartridge.
@@ -57,7 +56,7 @@ impl Trial<'_> {
         }
         let mut log = String::new(heap);
         let mut operator = Operator::new(cartridge);
-        let done = self.run_with(&mut log, &mut operator, heap);
+        let done = self.run_with(&mut log, &mut operator);
         let (_cartridge, _stopped) = operator.finish();
         done?;
         Ok(log)
