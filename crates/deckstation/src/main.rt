@@ -2,6 +2,8 @@
 
 #![tactic(auto)]
 
+ghost use Rattle.std.specs.Prelude.{◌≤◌, length, IfOk};
+
 use operator::Operator;
 use packed::PackedStore;
 use running::run;
@@ -14,17 +16,21 @@ mod replaying;
 mod running;
 
 // How much of the input is a script.
-const LIMIT: u64 = 4_096;
+const LIMIT: usize = 4_096;
 
 // The cells of the one track, and the bytes that hold them.
 const CAPACITY: u32 = 480_000;
 
 const BYTES: usize = 60_000;
 
-// The script that stands on standard input.
-fn read_script(rt: &HostRuntime) -> io::Result<Vec<u8>> {
+// The script that stands on standard input, of which no more is read than the limit.
+fn read_script(rt: &HostRuntime) -> io::Result<Vec<u8>>
+    ensures { IfOk result (λ script. length script.items ≤ 4096) }
+{
     let mut script = Vec::new(rt.alloc());
-    let _ = rt.stdin().take(LIMIT).read_to_end(&mut script)?;
+    let _ = rt.stdin().take(LIMIT as u64).read_to_end(&mut script)?;
+    // cuts nothing off, but the library's contracts do not say so
+    script.truncate(LIMIT);
     Ok(script)
 }
 

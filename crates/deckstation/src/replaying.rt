@@ -1,4 +1,6 @@
 // The command that replays the tape.
+ghost use Rattle.std.specs.Prelude.{◌≡◌};
+
 use deck::Next;
 use operator::Operator;
 use tape::Reading;
@@ -9,7 +11,9 @@ const BLOCK: usize = 512;
 pub(crate) fn replay_all<C: Reading>(
     rt: &HostRuntime,
     operator: &mut Operator<C>,
-) -> anyhow::Result<()> {
+) -> anyhow::Result<()>
+    ensures { operator.new.deck.session ≡ operator.old.deck.session }
+{
     match operator.rewind() {
         Ok(()) => print_items(rt, operator),
         Err(refusal) => {
@@ -20,7 +24,9 @@ pub(crate) fn replay_all<C: Reading>(
 }
 
 // A line for each item from where the replay stands on; of a block, with its first byte.
-fn print_items<C: Reading>(rt: &HostRuntime, operator: &mut Operator<C>) -> anyhow::Result<()> {
+fn print_items<C: Reading>(rt: &HostRuntime, operator: &mut Operator<C>) -> anyhow::Result<()>
+    ensures { operator.new.deck.session ≡ operator.old.deck.session }
+{
     let mut block = [0; BLOCK];
     let mut count = 0u32;
     loop {
