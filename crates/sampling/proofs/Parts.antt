@@ -1,7 +1,6 @@
 -- A track that is read part by part.
-use Rattle.std.proofs.Common.{◌≡◌, ℕ, ◌+◌, ◌<◌, ◌≤◌, List, ◌++◌, fold, length, take, drop, Ok, Err, Result, MatchResult, sym, ap, ◌∙◌, ⊎_elim, arith, take-take}
+use Rattle.std.proofs.Common.{◌≡◌, ℕ, ◌+◌, ◌<◌, ◌≤◌, List, fold, length, take, drop, Ok, Err, Result, MatchResult, sym, ap, ◌∙◌, ⊎_elim, arith, take-add}
 use Rattle.std.proofs.lemmas.Bool.{cases_lt}
-use Rattle.std.proofs.lemmas.List.{take-append-drop, drop-take}
 use Rattle.std.proofs.lemmas.List.Sums.{fold-append}
 use Rattle.std.proofs.lemmas.Result.{MatchResult-at_ok}
 use Rattle.tape.specs.Calls.{read_answer}
@@ -19,14 +18,8 @@ cells-read c t p n m q out old e same some fits read =
     let is : Ok tt ≡ read_answer c t p m = accepted t (length c) (p + m) (length (track c t)) (Ok tt) (Err PastEnd) (Err NoTrack) there (omega arith) in
     MatchResult-at_ok (λ _. out ≡ take m (drop p (track c t))) (λ _. out ≡ old) tt (e ∙ sym is) read ∙ ap (λ (k : ℕ). take k (drop p (track c t))) same
 
--- the first n and the next m
-pub take-next : (p n : ℕ) (xs : List ℕ) → take p xs ++ take n (drop p xs) ≡ take (p + n) xs
-take-next p n xs =
-    let front : take p (take (p + n) xs) ≡ take p xs = take-take p (p + n) xs (omega arith) in
-    sym (ap (λ (ys : List ℕ). ys ++ drop p (take (p + n) xs)) front ∙ ap (λ (ys : List ℕ). take p xs ++ ys) (drop-take p n xs)) ∙ take-append-drop p (take (p + n) xs)
-
 -- a hash goes on over the next part
 pub part-hashed : (f : ℕ → ℕ → ℕ) (a h h' p n : ℕ) (xs part : List ℕ) → h ≡ fold f a (take p xs) → part ≡ take n (drop p xs) → h' ≡ fold f h part → h' ≡ fold f a (take (p + n) xs)
 part-hashed f a h h' p n xs part before is after =
     after ∙ ap (λ (ys : List ℕ). fold f h ys) is ∙ ap (λ (x : ℕ). fold f x (take n (drop p xs))) before
-    ∙ sym (fold-append f a (take p xs) (take n (drop p xs))) ∙ ap (fold f a) (take-next p n xs)
+    ∙ sym (fold-append f a (take p xs) (take n (drop p xs))) ∙ ap (fold f a) (sym (take-add p n xs))
